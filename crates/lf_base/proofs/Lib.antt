@@ -1,0 +1,4 @@
+pub mod Chains
+pub mod Fronts
+pub mod Printing
+pub mod Stored

@@ -1,1 +1,10 @@
+pub mod Calls
+pub mod Causes
+pub mod Contents
+pub mod Files
+pub mod MemSink
+pub mod MemSource
+pub mod MemStore
+pub mod Puts
 pub mod Rules
+pub mod SureStore

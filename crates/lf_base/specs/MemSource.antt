@@ -1,0 +1,11 @@
+-- A source in memory, as callers see it.
+use Rattle.std.specs.Prelude.{ℕ, List}
+use Rattle.lf_base.specs.Calls.{Numbers}
+
+pub record SourceState : Type 0 where
+  -- the bytes that are left
+  pub left : List ℕ
+  -- its calls
+  pub calls : Numbers
+  -- how often it has failed
+  pub faults : ℕ

@@ -1,13 +1,13 @@
 -- Larger bounds keep what ended and only add to what was written: through each combinator.
-use Rattle.std.proofs.Common.{◌≡◌, ℕ, ◌≤◌, Bool, List, [], ◌∷◌, map, Option, Some, None, refl, sym, ap, subst, ◌∙◌}
+use Rattle.std.proofs.Common.{◌≡◌, ℕ, ◌≤◌, Bool, List, [], ◌∷◌, map, Option, refl, sym, ap, subst, ◌∙◌}
 use Rattle.std.specs.List.{AllByRecursion}
-use Rattle.lf_base.specs.Outcome.{Place, Written, Outcome, Ended, Cut, Wrong, Extends, written}
-use Rattle.lf_base.specs.Acts.{Stretch, Going, Stopped, Act, then_do, bind, in_order, within, iterate, outcome_of}
+use Rattle.lf_base.specs.Outcome.{Place, Written, Fault, Ended, Cut, Wrong, Extends}
+use Rattle.lf_base.specs.Acts.{Stretch, Going, Stopped, Act, bind, in_order, within, iterate, outcome_of}
 use Rattle.lf_base.specs.Order.{ExtendsIn, Grows, Link, Below, BelowFrom, Same}
 use Rattle.lf_base.specs.Near.{IsMonotone}
 use Rattle.lf_base.specs.Monotone.{SamePlace, NoShorter}
 use Rattle.lf_base.proofs.Outcomes.{begun_same}
-use Rattle.lf_base.proofs.Stretches.{below_self, below_weaker, below_then, grows_bind, Left, Tested, iterate_below, within_below, OrderBelow, order_below, left_same, same_left}
+use Rattle.lf_base.proofs.Stretches.{below_self, below_weaker, below_then, Left, Tested, iterate_below, OrderBelow, order_below, left_same, same_left}
 
 abbrev U : Type 0
 U = Unit {0}
@@ -56,6 +56,7 @@ pub outcomes_monotone : {S : Type 0} (act : ℕ → ℕ → Act S ℕ) (s : S) (
 outcomes_monotone {S} act s w h g = record {
   ended = λ n n' d d' ln ld sofar status place is. ended (act n d s w) (act n' d' s w) (h n n' d d' ln ld s w) sofar status place is;
   cut = λ n n' d d' ln ld sofar is. was_cut (act n d s w) (act n' d' s w) (h n n' d d' ln ld s w) sofar is;
+  wrong = λ n n' d d' ln ld fault is. was_wrong (act n d s w) (act n' d' s w) (h n n' d d' ln ld s w) fault is;
 }
   where
     ended : (x y : Stretch S ℕ) → Below U SamePlace Same x y → (sofar : Written) (status : ℕ) (place : Option Place) → outcome_of x ≡ Ended sofar status place → outcome_of y ≡ Ended sofar status place
@@ -73,3 +74,9 @@ outcomes_monotone {S} act s w h g = record {
     was_cut (Stopped (Ended v k p)) y b sofar is = absurd (cc)
     was_cut (Stopped (Cut v)) y b sofar is = let e : v ≡ sofar = cc in subst (λ x. Extends U x (outcome_of y)) e (grows_out y v b)
     was_cut (Stopped (Wrong f)) y b sofar is = absurd (cc)
+
+    was_wrong : (x y : Stretch S ℕ) → Below U SamePlace Same x y → (fault : Fault) → outcome_of x ≡ Wrong fault → outcome_of y ≡ Wrong fault
+    was_wrong (Going a t v) y b fault is = absurd (cc)
+    was_wrong (Stopped (Ended v k p)) y b fault is = absurd (cc)
+    was_wrong (Stopped (Cut v)) y b fault is = absurd (cc)
+    was_wrong (Stopped (Wrong f)) y b fault is = ap outcome_of b.1 ∙ is

@@ -1,7 +1,7 @@
 -- Acts whose steps are known, one behind another.
-use Rattle.std.proofs.Common.{◌≡◌, ℕ, zero, suc, Bool, true, false, List, [], ◌∷◌, Option, Some, None, refl, sym, ap, ◌∙◌}
+use Rattle.std.proofs.Common.{◌≡◌, ℕ, zero, suc, Bool, true, false, List, ◌∷◌, Option, Some, None, ap, ◌∙◌}
 use Rattle.lf_base.specs.Outcome.{Written, Outcome}
-use Rattle.lf_base.specs.Acts.{Stretch, Going, Stopped, Act, then_do, bind, give, next_or, in_order, within, turn, iterate, cut}
+use Rattle.lf_base.specs.Acts.{Going, Stopped, Act, then_do, bind, next_or, in_order, within, turn, iterate, cut}
 
 module _ {S A B : Type 0} (act : Act S A) (go : A → Act S B) (s : S) (w : Written) where
   pub bind_going : (a : A) (t : S) (v : Written) → act s w ≡ Going a t v → bind act go s w ≡ go a t v

@@ -75,7 +75,7 @@ module _ {S S' : Type 0} (W : Type 0) (P : Option Place → Option Place → Typ
   below_then Q R (Going value state sofar) y go go' h k more = subst (λ z. Below W P R (go value state sofar) (then_do z go')) (sym h.3) (k value state h.0 h.1 sofar h.2)
   below_then Q R (Stopped (Ended sofar status place)) y go go' h k more = (h.0, h.1, ap (λ z. then_do z go') h.2)
   below_then Q R (Stopped (Cut sofar)) y go go' h k more = extends_then W sofar y go' more h
-  below_then Q R (Stopped (Wrong fault)) y go go' h k more = h
+  below_then Q R (Stopped (Wrong fault)) y go go' h k more = (h.0, ap (λ z. then_do z go') h.1)
 
   pub below_bind : {A A' B B' : Type 0} (Q : S → S' → Type 0) (R : Link S A S' A') (T : Link S B S' B') (act : Act S A) (act' : Act S' A') (go : A → Act S B) (go' : A' → Act S' B') → BelowFrom W P Q R act act' → ((a : A) (a' : A') → BelowFrom W P (λ s s'. R a s a' s') T (go a) (go' a')) → ((a' : A') → Grows W (go' a')) → BelowFrom W P Q T (bind act go) (bind act' go')
   below_bind Q R T act act' go go' h k more state state' sofar r = below_then R T (act state sofar) (act' state' sofar) go go' (h state state' sofar r) (λ a s a' s' w q. k a a' s s' w q) more
@@ -147,7 +147,7 @@ pub below_self : {S A : Type 0} (x : Stretch S A) → Below (Unit {0}) (λ p q. 
 below_self (Going value state sofar) = (value, state, (refl, refl), refl)
 below_self (Stopped (Ended sofar status place)) = (place, refl, refl)
 below_self (Stopped (Cut sofar)) = begun_same sofar
-below_self (Stopped (Wrong fault)) = tt
+below_self (Stopped (Wrong fault)) = (tt, refl)
 
 -- the same with a weaker relation of what goes on
 pub below_weaker : {S A S' A' : Type 0} (W : Type 0) (P : Option Place → Option Place → Type 0) (R T : Link S A S' A') → ((a : A) (s : S) (a' : A') (s' : S') → R a s a' s' → T a s a' s') → (x : Stretch S A) (y : Stretch S' A') → Below W P R x y → Below W P T x y

@@ -1,6 +1,6 @@
 -- Two meanings that give the same within stated bounds, both ways.
 use Rattle.std.specs.Prelude.{◌≡◌, ℕ, ◌+◌, ◌*◌, ◌≤◌, List, length, Option}
-use Rattle.lf_base.specs.Outcome.{Place, Written, Outcome, Ended, Cut, Wrong, KeepsPlace, Extends, Meaning}
+use Rattle.lf_base.specs.Outcome.{Place, Written, Fault, Outcome, Ended, Cut, Wrong, KeepsPlace, Extends, Meaning}
 
 -- The outcome is neither stuck nor undefined nor away.
 abbrev pub IsSound : Outcome → Type 0
@@ -33,7 +33,8 @@ AgreeOn f c input = IsNearBy (8 * slack (length input)) 64 (f input) (c input)
 pub record Agree (f c : Meaning) : Type 0 where
   pub on : (input : List ℕ) → AgreeOn f c input
 
--- Larger bounds keep an end, and never shorten what is written.
+-- Larger bounds keep an end and never shorten what is written, and what is wrong stays wrong.
 pub record IsMonotone (m : ℕ → ℕ → Outcome) : Type 0 where
   pub ended : (n n' d d' : ℕ) → n ≤ n' → d ≤ d' → (sofar : Written) (status : ℕ) (place : Option Place) → m n d ≡ Ended sofar status place → m n' d' ≡ Ended sofar status place
   pub cut : (n n' d d' : ℕ) → n ≤ n' → d ≤ d' → (sofar : Written) → m n d ≡ Cut sofar → Extends (Unit {0}) sofar (m n' d')
+  pub wrong : (n n' d d' : ℕ) → n ≤ n' → d ≤ d' → (fault : Fault) → m n d ≡ Wrong fault → m n' d' ≡ Wrong fault

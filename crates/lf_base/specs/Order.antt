@@ -18,13 +18,13 @@ Link S A S' A' = A → S → A' → S' → Type 0
 
 -- The second goes at least as far as the first: what goes on goes on with the same output, related by R;
 -- what ended ended alike, its places related by P; what was cut had written a front of what the second
--- wrote. W is owed where the first is wrong: nothing for the law of larger bounds, the impossible
--- for a link, so that a link also says that wrong never comes.
+-- wrote; what was wrong stays wrong. W is owed there besides: nothing for the law of larger bounds, the
+-- impossible for a link, so that a link also says that wrong never comes.
 abbrev pub Below : {S A S' A' : Type 0} → Type 0 → (Option Place → Option Place → Type 0) → Link S A S' A' → Stretch S A → Stretch S' A' → Type 0
 Below {S} {A} {S'} {A'} W P R (Going value state sofar) y = (value' : A') × (state' : S') × R value state value' state' × (y ≡ Going value' state' sofar)
 Below W P R (Stopped (Ended sofar status place)) y = (place' : Option Place) × P place place' × (y ≡ Stopped (Ended sofar status place'))
 Below W P R (Stopped (Cut sofar)) y = ExtendsIn W sofar y
-Below W P R (Stopped (Wrong fault)) y = W
+Below W P R (Stopped (Wrong fault)) y = W × (y ≡ Stopped (Wrong fault))
 
 -- from states related by Q to values and states related by R
 abbrev pub BelowFrom : {S A S' A' : Type 0} → Type 0 → (Option Place → Option Place → Type 0) → (S → S' → Type 0) → Link S A S' A' → Act S A → Act S' A' → Type 0

@@ -1,4 +1,7 @@
 pub mod Chains
 pub mod Fronts
+pub mod Links
+pub mod Outcomes
 pub mod Printing
 pub mod Stored
+pub mod Stretches

@@ -1,3 +1,4 @@
+pub mod Acts
 pub mod Calls
 pub mod Causes
 pub mod Contents
@@ -5,6 +6,9 @@ pub mod Files
 pub mod MemSink
 pub mod MemSource
 pub mod MemStore
+pub mod Near
+pub mod Order
+pub mod Outcome
 pub mod Puts
 pub mod Rules
 pub mod SureStore

@@ -4,6 +4,7 @@
 mod calls;
 mod fault;
 mod id;
+pub mod law;
 mod mem_sink;
 mod mem_source;
 mod mem_store;

@@ -1,0 +1,160 @@
+-- The order of outcomes goes through each combinator.
+use Rattle.std.proofs.Common.{◌≡◌, ℕ, zero, suc, ◌≤◌, Bool, true, false, List, Option, Some, None, refl, sym, ap, subst, arith}
+use Rattle.lf_base.specs.Outcome.{Place, Written, Fault, Ended, Cut, Wrong, IsBegun}
+use Rattle.lf_base.specs.Acts.{Stretch, Going, Stopped, Act, then_do, bind, give, look, change, print, complain, stop, trap, cut, wrong, given, next_or, turn, iterate}
+use Rattle.lf_base.specs.Order.{ExtendsIn, Grows, Link, Below, BelowFrom, Same}
+use Rattle.lf_base.proofs.Outcomes.{front_same, front_append, begun_same, begun_more, extends_more}
+
+module _ {S A : Type 0} (W : Type 0) where
+  pub extends_in_more : (a b : Written) (x : Stretch S A) → IsBegun a b → ExtendsIn W b x → ExtendsIn W a x
+  extends_in_more a b (Going value state later) p q = begun_more a b later p q
+  extends_in_more a b (Stopped outcome) p q = extends_more W a b outcome p q
+
+-- an act behind a stretch
+pub extends_then : {S A B : Type 0} (W : Type 0) (sofar : Written) (x : Stretch S A) (go : A → Act S B) → ((a : A) → Grows W (go a)) → ExtendsIn W sofar x → ExtendsIn W sofar (then_do x go)
+extends_then W sofar (Going value state later) go more h = extends_in_more W sofar later (go value state later) h (more value state later)
+extends_then W sofar (Stopped outcome) go more h = h
+
+pub grows_bind : {S A B : Type 0} (W : Type 0) (act : Act S A) (go : A → Act S B) → Grows W act → ((a : A) → Grows W (go a)) → Grows W (bind act go)
+grows_bind W act go h more state sofar = extends_then W sofar (act state sofar) go more (h state sofar)
+
+pub grows_give : {S A : Type 0} (W : Type 0) (value : A) → Grows {S = S} W (give value)
+grows_give W value state sofar = begun_same sofar
+
+pub grows_look : {S A : Type 0} (W : Type 0) (f : S → A) → Grows W (look f)
+grows_look W f state sofar = begun_same sofar
+
+pub grows_change : {S : Type 0} (W : Type 0) (f : S → S) → Grows W (change f)
+grows_change W f state sofar = begun_same sofar
+
+pub grows_print : {S : Type 0} (W : Type 0) (bytes : List ℕ) → Grows {S = S} W (print bytes)
+grows_print W bytes state sofar = record { out = front_append sofar.out bytes; err = front_same sofar.err }
+
+pub grows_complain : {S : Type 0} (W : Type 0) (bytes : List ℕ) → Grows {S = S} W (complain bytes)
+grows_complain W bytes state sofar = record { out = front_same sofar.out; err = front_append sofar.err bytes }
+
+pub grows_stop : (S A : Type 0) (W : Type 0) (status : ℕ) → Grows {S = S} {A = A} W (stop status)
+grows_stop S A W status state sofar = begun_same sofar
+
+pub grows_trap : (S A : Type 0) (W : Type 0) (number : ℕ) (text : List ℕ) (place : Option Place) → Grows {S = S} {A = A} W (trap number text place)
+grows_trap S A W number text place state sofar = record { out = front_same sofar.out; err = front_append sofar.err text }
+
+pub grows_cut : (S A : Type 0) (W : Type 0) → Grows {S = S} {A = A} W cut
+grows_cut S A W state sofar = begun_same sofar
+
+-- W is what is owed where there is no rule
+pub grows_wrong : (S A : Type 0) (W : Type 0) (owed : W) (fault : Fault) → Grows {S = S} {A = A} W (wrong fault)
+grows_wrong S A W owed fault state sofar = owed
+
+pub grows_given : (S : Type 0) {A : Type 0} (W : Type 0) (owed : W) (fault : Fault) (o : Option A) → Grows {S = S} W (given fault o)
+grows_given S {A} W owed fault None = grows_wrong S A W owed fault
+grows_given S W owed fault (Some value) = grows_give W value
+
+grows_next : {S B : Type 0} (W : Type 0) (more : Act S (Option B)) → Grows W more → (o : Option B) → Grows W (next_or more o)
+grows_next W more h None = h
+grows_next {S} {B} W more h (Some left) = grows_give {A = Option B} W (Some left)
+
+grows_turn : {S B : Type 0} (W : Type 0) (body more : Act S (Option B)) → Grows W body → Grows W more → (t : Bool) → Grows W (turn body more t)
+grows_turn W body more h k true = grows_bind W body (next_or more) h (grows_next W more k)
+grows_turn {S} {B} W body more h k false = grows_give {A = Option B} W None
+
+pub grows_iterate : {S B : Type 0} (W : Type 0) (n : ℕ) (test : Act S Bool) (body : Act S (Option B)) → Grows W test → Grows W body → Grows W (iterate n test body)
+grows_iterate {S} {B} W zero test body t b = grows_bind W test (turn cut cut) t (grows_turn W cut cut (grows_cut S (Option B) W) (grows_cut S (Option B) W))
+grows_iterate W (suc n) test body t b = grows_bind W test (turn body (iterate n test body)) t (grows_turn W body (iterate n test body) b (grows_iterate W n test body t b))
+
+module _ {S S' : Type 0} (W : Type 0) (P : Option Place → Option Place → Type 0) where
+  pub below_then : {A A' B B' : Type 0} (Q : Link S A S' A') (R : Link S B S' B') (x : Stretch S A) (y : Stretch S' A') (go : A → Act S B) (go' : A' → Act S' B') → Below W P Q x y → ((a : A) (s : S) (a' : A') (s' : S') (sofar : Written) → Q a s a' s' → Below W P R (go a s sofar) (go' a' s' sofar)) → ((a' : A') → Grows W (go' a')) → Below W P R (then_do x go) (then_do y go')
+  below_then Q R (Going value state sofar) y go go' h k more = subst (λ z. Below W P R (go value state sofar) (then_do z go')) (sym h.3) (k value state h.0 h.1 sofar h.2)
+  below_then Q R (Stopped (Ended sofar status place)) y go go' h k more = (h.0, h.1, ap (λ z. then_do z go') h.2)
+  below_then Q R (Stopped (Cut sofar)) y go go' h k more = extends_then W sofar y go' more h
+  below_then Q R (Stopped (Wrong fault)) y go go' h k more = h
+
+  pub below_bind : {A A' B B' : Type 0} (Q : S → S' → Type 0) (R : Link S A S' A') (T : Link S B S' B') (act : Act S A) (act' : Act S' A') (go : A → Act S B) (go' : A' → Act S' B') → BelowFrom W P Q R act act' → ((a : A) (a' : A') → BelowFrom W P (λ s s'. R a s a' s') T (go a) (go' a')) → ((a' : A') → Grows W (go' a')) → BelowFrom W P Q T (bind act go) (bind act' go')
+  below_bind Q R T act act' go go' h k more state state' sofar r = below_then R T (act state sofar) (act' state' sofar) go go' (h state state' sofar r) (λ a s a' s' w q. k a a' s s' w q) more
+
+  pub below_give : {A A' : Type 0} (Q : S → S' → Type 0) (R : Link S A S' A') (a : A) (a' : A') → ((s : S) (s' : S') → Q s s' → R a s a' s') → BelowFrom W P Q R (give a) (give a')
+  below_give Q R a a' h state state' sofar r = (a', state', h state state' r, refl)
+
+  -- A cut is below whatever writes more.
+  pub below_cut : {A A' : Type 0} (Q : S → S' → Type 0) (R : Link S A S' A') (act' : Act S' A') → Grows W act' → BelowFrom W P Q R cut act'
+  below_cut Q R act' more state state' sofar r = more state' sofar
+
+-- a loop, where the second may make more turns
+module _ {S S' B B' : Type 0} (W : Type 0) (P : Option Place → Option Place → Type 0) (Q : S → S' → Type 0) (L : Link S B S' B') where
+  -- both go on, or both are left with related values
+  abbrev pub Left : Link S (Option B) S' (Option B')
+  Left None s None s' = Q s s'
+  Left None s (Some b') s' = ⊥
+  Left (Some b) s None s' = ⊥
+  Left (Some b) s (Some b') s' = L b s b' s'
+
+  -- both tests hold, or both fail
+  abbrev pub Tested : Link S Bool S' Bool
+  Tested t s t' s' = (t' ≡ t) × Q s s'
+
+  next_below : (more : Act S (Option B)) (more' : Act S' (Option B')) → BelowFrom W P Q Left more more' → (o : Option B) (o' : Option B') → BelowFrom W P (λ s s'. Left o s o' s') Left (next_or more o) (next_or more' o')
+  next_below more more' h None None = h
+  next_below more more' h None (Some b') = λ s s' w r. absurd r
+  next_below more more' h (Some b) None = λ s s' w r. absurd r
+  next_below more more' h (Some b) (Some b') = λ s s' w r. (Some b', s', r, refl)
+
+  turn_below : (body more : Act S (Option B)) (body' more' : Act S' (Option B')) → BelowFrom W P Q Left body body' → BelowFrom W P Q Left more more' → Grows W more' → (t t' : Bool) → BelowFrom W P (λ s s'. Tested t s t' s') Left (turn body more t) (turn body' more' t')
+  turn_below body more body' more' h k g true true = λ s s' w r. below_bind W P Q Left Left body body' (next_or more) (next_or more') h (next_below more more' k) (grows_next W more' g) s s' w r.1
+  turn_below body more body' more' h k g false false = λ s s' w r. (None, s', r.1, refl)
+  turn_below body more body' more' h k g true false = λ s s' w r. absurd (cc r.0)
+  turn_below body more body' more' h k g false true = λ s s' w r. absurd (cc r.0)
+
+  cut_turn_below : (body' more' : Act S' (Option B')) → Grows W body' → Grows W more' → (t t' : Bool) → BelowFrom W P (λ s s'. Tested t s t' s') Left (turn cut cut t) (turn body' more' t')
+  cut_turn_below body' more' h g true true = λ s s' w r. grows_turn W body' more' h g true s' w
+  cut_turn_below body' more' h g false false = λ s s' w r. (None, s', r.1, refl)
+  cut_turn_below body' more' h g true false = λ s s' w r. absurd (cc r.0)
+  cut_turn_below body' more' h g false true = λ s s' w r. absurd (cc r.0)
+
+  pub iterate_below : (n n' : ℕ) → n ≤ n' → (test : Act S Bool) (test' : Act S' Bool) (body : Act S (Option B)) (body' : Act S' (Option B')) → BelowFrom W P Q Tested test test' → BelowFrom W P Q Left body body' → Grows W test' → Grows W body' → BelowFrom W P Q Left (iterate n test body) (iterate n' test' body')
+  iterate_below zero zero le test test' body body' t b gt gb = below_bind W P Q Tested Left test test' (turn cut cut) (turn cut cut) t (cut_turn_below cut cut (grows_cut S' (Option B') W) (grows_cut S' (Option B') W)) (grows_turn W cut cut (grows_cut S' (Option B') W) (grows_cut S' (Option B') W))
+  iterate_below zero (suc n') le test test' body body' t b gt gb = below_bind W P Q Tested Left test test' (turn cut cut) (turn body' (iterate n' test' body')) t (cut_turn_below body' (iterate n' test' body') gb (grows_iterate W n' test' body' gt gb)) (grows_turn W body' (iterate n' test' body') gb (grows_iterate W n' test' body' gt gb))
+  iterate_below (suc n) zero le test test' body body' t b gt gb = absurd (omega arith)
+  iterate_below (suc n) (suc n') le test test' body body' t b gt gb = below_bind W P Q Tested Left test test' (turn body (iterate n test body)) (turn body' (iterate n' test' body')) t (turn_below body (iterate n test body) body' (iterate n' test' body') b (iterate_below n n' (omega arith) test test' body body' t b gt gb) (grows_iterate W n' test' body' gt gb)) (grows_turn W body' (iterate n' test' body') gb (grows_iterate W n' test' body' gt gb))
+
+-- What goes as far as itself.
+pub below_self : {S A : Type 0} (x : Stretch S A) → Below (Unit {0}) (λ p q. q ≡ p) Same x x
+below_self (Going value state sofar) = (value, state, (refl, refl), refl)
+below_self (Stopped (Ended sofar status place)) = (place, refl, refl)
+below_self (Stopped (Cut sofar)) = begun_same sofar
+below_self (Stopped (Wrong fault)) = tt
+
+-- the same with a weaker relation of what goes on
+below_weaker : {S A S' A' : Type 0} (W : Type 0) (P : Option Place → Option Place → Type 0) (R T : Link S A S' A') → ((a : A) (s : S) (a' : A') (s' : S') → R a s a' s' → T a s a' s') → (x : Stretch S A) (y : Stretch S' A') → Below W P R x y → Below W P T x y
+below_weaker W P R T k (Going value state sofar) y h = (h.0, h.1, k value state h.0 h.1 h.2, h.3)
+below_weaker W P R T k (Stopped (Ended sofar status place)) y h = h
+below_weaker W P R T k (Stopped (Cut sofar)) y h = h
+below_weaker W P R T k (Stopped (Wrong fault)) y h = h
+
+-- nothing is owed where there is no rule, and places are the same
+abbrev U : Type 0
+U = Unit {0}
+
+abbrev P : Option Place → Option Place → Type 0
+P p q = q ≡ p
+
+abbrev Q : (S : Type 0) → S → S → Type 0
+Q S s s' = s' ≡ s
+
+from_self : {S A : Type 0} (act : Act S A) (R : Link S A S A) → ((a : A) (s : S) → R a s a s) → BelowFrom U P (Q S) R act act
+from_self {S} act R r s s' w e = subst (λ z. Below U P R (act s w) (act z w)) (sym e) (below_weaker U P Same R (λ a t a' t' h. subst (λ b. R a t b t') (sym h.0) (subst (λ z. R a t a z) (sym h.1) (r a t))) (act s w) (act s w) (below_self (act s w)))
+
+left_same : {S B : Type 0} (o : Option B) (s : S) → Left U P (Q S) Same o s o s
+left_same None s = refl
+left_same (Some b) s = (refl, refl)
+
+same_left : {S B : Type 0} (o : Option B) (s : S) (o' : Option B) (s' : S) → Left U P (Q S) Same o s o' s' → Same o s o' s'
+same_left None s None s' h = (refl, h)
+same_left None s (Some b') s' h = absurd h
+same_left (Some b) s None s' h = absurd h
+same_left (Some b) s (Some b') s' h = (ap Some h.0, h.1)
+
+-- a loop beside itself with more turns
+pub loop_larger : {S B : Type 0} (n n' : ℕ) → n ≤ n' → (test : Act S Bool) (body : Act S (Option B)) → Grows U test → Grows U body → (state : S) (sofar : Written) → Below U P Same (iterate n test body state sofar) (iterate n' test body state sofar)
+loop_larger {S} {B} n n' le test body gt gb state sofar =
+    below_weaker U P (Left U P (Q S) Same) Same same_left (iterate n test body state sofar) (iterate n' test body state sofar)
+    (iterate_below U P (Q S) Same n n' le test test body body (from_self test (Tested {B = B} {B' = B} U P (Q S) Same) (λ t s. (refl, refl))) (from_self body (Left U P (Q S) Same) left_same) gt gb state state sofar refl)

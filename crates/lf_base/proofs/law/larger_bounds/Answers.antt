@@ -1,0 +1,5 @@
+use Rattle.lf_base.proofs.Stretches.{loop_larger}
+use Rattle.lf_base.proofs.law.larger_bounds.Goals as goal
+
+pub returns : goal.returns
+returns g c = loop_larger

@@ -1,7 +1,8 @@
 -- The order of outcomes goes through each combinator.
-use Rattle.std.proofs.Common.{◌≡◌, ℕ, zero, suc, ◌≤◌, Bool, true, false, List, Option, Some, None, refl, sym, ap, subst, arith}
+use Rattle.std.proofs.Common.{◌≡◌, ℕ, zero, suc, ◌≤◌, Bool, true, false, List, Option, Some, None, refl, sym, ap, subst, arith, [], ◌∷◌}
+use Rattle.std.specs.List.{AllByRecursion}
 use Rattle.lf_base.specs.Outcome.{Place, Written, Fault, Ended, Cut, Wrong, IsBegun}
-use Rattle.lf_base.specs.Acts.{Stretch, Going, Stopped, Act, then_do, bind, give, look, change, print, complain, stop, trap, cut, wrong, given, next_or, turn, iterate}
+use Rattle.lf_base.specs.Acts.{Stretch, Going, Stopped, Act, then_do, bind, give, look, change, print, complain, stop, trap, cut, wrong, given, next_or, in_order, within, turn, iterate}
 use Rattle.lf_base.specs.Order.{ExtendsIn, Grows, Link, Below, BelowFrom, Same}
 use Rattle.lf_base.proofs.Outcomes.{front_same, front_append, begun_same, begun_more, extends_more}
 
@@ -54,6 +55,13 @@ grows_next : {S B : Type 0} (W : Type 0) (more : Act S (Option B)) → Grows W m
 grows_next W more h None = h
 grows_next {S} {B} W more h (Some left) = grows_give {A = Option B} W (Some left)
 
+pub grows_order : {S B : Type 0} (W : Type 0) (acts : List (Act S (Option B))) → AllByRecursion (Grows W) acts → Grows W (in_order acts)
+grows_order {S} {B} W [] h = grows_give {A = Option B} W None
+grows_order W (act ∷ acts) h = grows_bind W act (next_or (in_order acts)) h.0 (grows_next W (in_order acts) (grows_order W acts h.1))
+
+pub grows_within : {S A : Type 0} (W : Type 0) (enter : S → S) (leave : S → S → S) (act : Act S A) → Grows W act → Grows W (within enter leave act)
+grows_within W enter leave act h state sofar = extends_then W sofar (act (enter state) sofar) (λ value inner later. Going value (leave state inner) later) (λ a s w. begun_same w) (h (enter state) sofar)
+
 grows_turn : {S B : Type 0} (W : Type 0) (body more : Act S (Option B)) → Grows W body → Grows W more → (t : Bool) → Grows W (turn body more t)
 grows_turn W body more h k true = grows_bind W body (next_or more) h (grows_next W more k)
 grows_turn {S} {B} W body more h k false = grows_give {A = Option B} W None
@@ -97,6 +105,24 @@ module _ {S S' B B' : Type 0} (W : Type 0) (P : Option Place → Option Place �
   next_below more more' h None (Some b') = λ s s' w r. absurd r
   next_below more more' h (Some b) None = λ s s' w r. absurd r
   next_below more more' h (Some b) (Some b') = λ s s' w r. (Some b', s', r, refl)
+
+  -- acts in order, each below its fellow
+  abbrev pub OrderBelow : List (Act S (Option B)) → List (Act S' (Option B')) → Type 0
+  OrderBelow [] [] = Unit {0}
+  OrderBelow [] (b ∷ ys) = ⊥
+  OrderBelow (a ∷ xs) [] = ⊥
+  OrderBelow (a ∷ xs) (b ∷ ys) = BelowFrom W P Q Left a b × Grows W b × OrderBelow xs ys
+
+  order_grows : (xs : List (Act S (Option B))) (ys : List (Act S' (Option B'))) → OrderBelow xs ys → Grows W (in_order ys)
+  order_grows xs [] h = grows_order {B = B'} W [] tt
+  order_grows [] (b ∷ ys) h = absurd h
+  order_grows (a ∷ xs) (b ∷ ys) h = grows_bind W b (next_or (in_order ys)) h.1 (grows_next W (in_order ys) (order_grows xs ys h.2))
+
+  pub order_below : (xs : List (Act S (Option B))) (ys : List (Act S' (Option B'))) → OrderBelow xs ys → BelowFrom W P Q Left (in_order xs) (in_order ys)
+  order_below [] [] h = λ s s' w r. (None, s', r, refl)
+  order_below [] (b ∷ ys) h = absurd h
+  order_below (a ∷ xs) [] h = absurd h
+  order_below (a ∷ xs) (b ∷ ys) h = below_bind W P Q Left Left a b (next_or (in_order xs)) (next_or (in_order ys)) h.0 (next_below (in_order xs) (in_order ys) (order_below xs ys h.2)) (grows_next W (in_order ys) (order_grows xs ys h.2))
 
   turn_below : (body more : Act S (Option B)) (body' more' : Act S' (Option B')) → BelowFrom W P Q Left body body' → BelowFrom W P Q Left more more' → Grows W more' → (t t' : Bool) → BelowFrom W P (λ s s'. Tested t s t' s') Left (turn body more t) (turn body' more' t')
   turn_below body more body' more' h k g true true = λ s s' w r. below_bind W P Q Left Left body body' (next_or more) (next_or more') h (next_below more more' k) (grows_next W more' g) s s' w r.1
@@ -158,3 +184,11 @@ pub loop_larger : {S B : Type 0} (n n' : ℕ) → n ≤ n' → (test : Act S Boo
 loop_larger {S} {B} n n' le test body gt gb state sofar =
     below_weaker U P (Left U P (Q S) Same) Same same_left (iterate n test body state sofar) (iterate n' test body state sofar)
     (iterate_below U P (Q S) Same n n' le test test body body (from_self test (Tested {B = B} {B' = B} U P (Q S) Same) (λ t s. (refl, refl))) (from_self body (Left U P (Q S) Same) left_same) gt gb state state sofar refl)
+
+-- an act in a state of its own beside its fellow in one
+pub within_below : {S S' A A' : Type 0} (W : Type 0) (P : Option Place → Option Place → Type 0) (Q K : S → S' → Type 0) (R T : Link S A S' A') (enter : S → S) (leave : S → S → S) (enter' : S' → S') (leave' : S' → S' → S') (act : Act S A) (act' : Act S' A') → ((s : S) (s' : S') → Q s s' → K (enter s) (enter' s')) → ((s : S) (s' : S') → Q s s' → (a : A) (t : S) (a' : A') (t' : S') → R a t a' t' → T a (leave s t) a' (leave' s' t')) → BelowFrom W P K R act act' → BelowFrom W P Q T (within enter leave act) (within enter' leave' act')
+within_below W P Q K R T enter leave enter' leave' act act' into out h state state' sofar q =
+    below_then W P R T (act (enter state) sofar) (act' (enter' state') sofar) (λ value inner later. Going value (leave state inner) later) (λ value inner later. Going value (leave' state' inner) later)
+    (h (enter state) (enter' state') sofar (into state state' q))
+    (λ a s a' s' w r. (a', leave' state' s', out state state' q a s a' s' r, refl))
+    (λ a' s w. begun_same w)

@@ -1,6 +1,6 @@
 -- The few combinators of which every meaning is made: of Fortran, of the tree and of C. An act goes on
 -- from a state and from what has been written so far. It ends by itself: `n` bounds the turns of a loop.
-use Rattle.std.specs.Prelude.{ℕ, zero, suc, ◌+◌, ◌%◌, Bool, true, false, List, ◌++◌, Option, Some, None}
+use Rattle.std.specs.Prelude.{ℕ, zero, suc, ◌+◌, ◌%◌, Bool, true, false, List, [], ◌∷◌, ◌++◌, Option, Some, None}
 use Rattle.lf_base.specs.Outcome.{Place, Written, Fault, Outcome, Ended, Cut, Wrong}
 
 -- a stretch goes on with a value in a state, or the program stops
@@ -62,6 +62,16 @@ given fault (Some value) = give value
 abbrev pub next_or : {S B : Type 0} → Act S (Option B) → Option B → Act S (Option B)
 next_or more None = more
 next_or more (Some left) = give (Some left)
+
+-- acts in order, as long as each says that the next follows
+abbrev pub in_order : {S B : Type 0} → List (Act S (Option B)) → Act S (Option B)
+in_order [] = give None
+in_order (act ∷ acts) = bind act (next_or (in_order acts))
+
+-- an act in a state of its own, made from the state before it, which is also left by it: a block with its
+-- declarations, a call with its frame
+abbrev pub within : {S A : Type 0} → (S → S) → (S → S → S) → Act S A → Act S A
+within enter leave act state sofar = then_do (act (enter state) sofar) (λ value inner later. Going value (leave state inner) later)
 
 -- A turn is begun where the test holds and a turn is left; the body says whether the next turn
 -- follows (None) or with what the loop is left.

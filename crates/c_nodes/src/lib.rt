@@ -1,6 +1,7 @@
 //! C files of the profile that the compiler writes.
 #![tactic(auto)]
 
+pub mod law;
 mod tree;
 
 pub use tree::{CBinary, CExpr, CFile, CItem, CParameter, CResult, CStmt, CType};

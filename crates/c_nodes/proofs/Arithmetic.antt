@@ -29,7 +29,7 @@ use Rattle.c_nodes.proofs.Trap.{trap_law, plain_text}
 abbrev over_body : List CStmt
 over_body = Call (codes "lf_trap") (Constant 1 ∷ Literal (codes "IntegerOverflow") ∷ []) ∷ []
 
-abbrev over_call : List CStmt
+abbrev pub over_call : List CStmt
 over_call = Call (codes "lf_over") [] ∷ []
 
 module _ (files : List CFile) (file : ℕ) (h : HasPrelude files file) (n d : ℕ) (long : 15 ≤ n) where
@@ -70,16 +70,16 @@ module _ (files : List CFile) (file : ℕ) (h : HasPrelude files file) (n d : �
 abbrev one_frame : ℤ → Frame
 one_frame a = record { next = 1; names = record { name = codes "a"; id = 0; slot = Cells Int64 false (Some a ∷ []) } ∷ [] }
 
-abbrev two_frame : ℤ → ℤ → Frame
+abbrev pub two_frame : ℤ → ℤ → Frame
 two_frame a b = record { next = 2; names = record { name = codes "b"; id = 1; slot = Cells Int64 false (Some b ∷ []) } ∷ record { name = codes "a"; id = 0; slot = Cells Int64 false (Some a ∷ []) } ∷ [] }
 
 abbrev one_state : ℤ → List Frame → List ℕ → State
 one_state a callers input = record { here = one_frame a; callers = callers; input = input }
 
-abbrev two_state : ℤ → ℤ → List Frame → List ℕ → State
+abbrev pub two_state : ℤ → ℤ → List Frame → List ℕ → State
 two_state a b callers input = record { here = two_frame a b; callers = callers; input = input }
 
-two_binds : (v w' : Width) (a b : ℤ) → fits W64 a ≡ true → fits W64 b ≡ true → bound_all (parameter.Value Int64 (codes "a") ∷ parameter.Value Int64 (codes "b") ∷ []) (Number v a ∷ Number w' b ∷ []) (Some no_names) ≡ Some (two_frame a b)
+pub two_binds : (v w' : Width) (a b : ℤ) → fits W64 a ≡ true → fits W64 b ≡ true → bound_all (parameter.Value Int64 (codes "a") ∷ parameter.Value Int64 (codes "b") ∷ []) (Number v a ∷ Number w' b ∷ []) (Some no_names) ≡ Some (two_frame a b)
 two_binds v w' a b fa fb = binds64 (codes "a") (parameter.Value Int64 (codes "b") ∷ []) v a (Number w' b ∷ []) no_names fa ∙ binds64 (codes "b") [] w' b [] (one_frame a) fb
 
 -- `lf_fit`

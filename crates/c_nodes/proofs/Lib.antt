@@ -4,5 +4,7 @@ pub mod CExprs
 pub mod CNumbers
 pub mod CRuns
 pub mod ExprInduction
+pub mod Multiply
+pub mod Products
 pub mod StmtInduction
 pub mod Trap

@@ -3,7 +3,9 @@ pub mod CCalls
 pub mod CExprs
 pub mod CNumbers
 pub mod CRuns
+pub mod Digits
 pub mod ExprInduction
+pub mod Ints
 pub mod Multiply
 pub mod Products
 pub mod StmtInduction

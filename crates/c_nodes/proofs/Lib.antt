@@ -5,6 +5,7 @@ pub mod CNumbers
 pub mod CRuns
 pub mod Digits
 pub mod ExprInduction
+pub mod Gap
 pub mod Ints
 pub mod Multiply
 pub mod Products

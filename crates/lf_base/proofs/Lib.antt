@@ -1,6 +1,7 @@
 pub mod Chains
 pub mod Fronts
 pub mod Links
+pub mod Monotone
 pub mod Outcomes
 pub mod Printing
 pub mod Runs

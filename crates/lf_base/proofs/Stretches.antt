@@ -150,7 +150,7 @@ below_self (Stopped (Cut sofar)) = begun_same sofar
 below_self (Stopped (Wrong fault)) = tt
 
 -- the same with a weaker relation of what goes on
-below_weaker : {S A S' A' : Type 0} (W : Type 0) (P : Option Place → Option Place → Type 0) (R T : Link S A S' A') → ((a : A) (s : S) (a' : A') (s' : S') → R a s a' s' → T a s a' s') → (x : Stretch S A) (y : Stretch S' A') → Below W P R x y → Below W P T x y
+pub below_weaker : {S A S' A' : Type 0} (W : Type 0) (P : Option Place → Option Place → Type 0) (R T : Link S A S' A') → ((a : A) (s : S) (a' : A') (s' : S') → R a s a' s' → T a s a' s') → (x : Stretch S A) (y : Stretch S' A') → Below W P R x y → Below W P T x y
 below_weaker W P R T k (Going value state sofar) y h = (h.0, h.1, k value state h.0 h.1 h.2, h.3)
 below_weaker W P R T k (Stopped (Ended sofar status place)) y h = h
 below_weaker W P R T k (Stopped (Cut sofar)) y h = h
@@ -169,11 +169,11 @@ Q S s s' = s' ≡ s
 from_self : {S A : Type 0} (act : Act S A) (R : Link S A S A) → ((a : A) (s : S) → R a s a s) → BelowFrom U P (Q S) R act act
 from_self {S} act R r s s' w e = subst (λ z. Below U P R (act s w) (act z w)) (sym e) (below_weaker U P Same R (λ a t a' t' h. subst (λ b. R a t b t') (sym h.0) (subst (λ z. R a t a z) (sym h.1) (r a t))) (act s w) (act s w) (below_self (act s w)))
 
-left_same : {S B : Type 0} (o : Option B) (s : S) → Left U P (Q S) Same o s o s
+pub left_same : {S B : Type 0} (o : Option B) (s : S) → Left U P (Q S) Same o s o s
 left_same None s = refl
 left_same (Some b) s = (refl, refl)
 
-same_left : {S B : Type 0} (o : Option B) (s : S) (o' : Option B) (s' : S) → Left U P (Q S) Same o s o' s' → Same o s o' s'
+pub same_left : {S B : Type 0} (o : Option B) (s : S) (o' : Option B) (s' : S) → Left U P (Q S) Same o s o' s' → Same o s o' s'
 same_left None s None s' h = (refl, h)
 same_left None s (Some b') s' h = absurd h
 same_left (Some b) s None s' h = absurd h

@@ -6,6 +6,7 @@ pub mod Files
 pub mod MemSink
 pub mod MemSource
 pub mod MemStore
+pub mod Monotone
 pub mod Near
 pub mod Order
 pub mod Outcome

@@ -1,4 +1,5 @@
 use Rattle.lf_base.proofs.Runs.{iterate_turn}
+use Rattle.lf_base.proofs.Monotone.{outcomes_monotone}
 use Rattle.lf_base.proofs.Stretches.{loop_larger}
 use Rattle.lf_base.proofs.law.larger_bounds.Goals as goal
 

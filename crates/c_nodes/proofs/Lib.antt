@@ -1,6 +1,7 @@
 pub mod Arithmetic
 pub mod CCalls
 pub mod CExprs
+pub mod CMonotone
 pub mod CNumbers
 pub mod CRuns
 pub mod Digits

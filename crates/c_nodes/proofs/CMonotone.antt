@@ -256,7 +256,7 @@ procedure_longer None go go' h = same_self {A = Option CValue} (wrong Undefined)
 procedure_longer (Some p) go go' h = h p
 
 pub calls_longer : (files : List CFile) (n n' d d' file : ℕ) → n ≤ n' → d ≤ d' → CallsLonger (calls_of files n d file) (calls_of files n' d' file)
-calls_longer files n n' zero zero file ln ld = library_longer (λ name vs. cut) (λ name vs. cut) (λ name vs. same_self cut)
+calls_longer files n n' zero zero file ln ld = library_longer (λ name vs. cut) (λ name vs. cut) (λ name vs. same_self {A = Option CValue} cut)
 calls_longer files n n' zero (suc d') file ln ld =
     library_longer (λ name vs. cut) (λ name vs. on_procedure (function_of files file name) (λ p. call n' (calls_of files n' d' p.file) p vs))
     (λ name vs s w. procedure_grows (function_of files file name) (λ p. call n' (calls_of files n' d' p.file) p vs) (λ p. call_grows n' (calls_of files n' d' p.file) (calls_grow files n' d' p.file) p vs) s w)

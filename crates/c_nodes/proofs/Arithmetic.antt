@@ -19,7 +19,7 @@ use Rattle.c_nodes.specs.declared.tree.CStmt.TheVariants.{Call, ReturnValue, If}
 use Rattle.c_nodes.specs.CValues.{Width, W32, W64, Base, Text, CValue, Number, Pointer, fits, truth, least32, greatest32, least64, greatest64}
 use Rattle.c_nodes.specs.CState.{Cells, Frame, State, no_names}
 use Rattle.c_nodes.specs.CMeaning.{reading, Calls, Procedure, Flow, Returned, bound_all, call, on_procedure, function_of, function_in, calls_of, statement, statements}
-use Rattle.c_nodes.specs.Helpers.{HasPrelude, trapped, overflows, value_or_overflow, Fits, Combines}
+use Rattle.c_nodes.specs.HelperLaws.{HasPrelude, trapped, overflows, value_or_overflow, Fits, Combines}
 use Rattle.c_nodes.specs.Prelude.{prelude_items}
 use Rattle.c_nodes.proofs.CExprs.{exprs}
 use Rattle.c_nodes.proofs.CRuns.{stop_call, run_return, run_if_not, if_so, stop_block}

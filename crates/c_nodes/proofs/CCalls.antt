@@ -12,7 +12,7 @@ use Rattle.c_nodes.specs.declared.tree.CFile.{CFile}
 use Rattle.c_nodes.specs.CValues.{Width, W32, W64, CValue, Number, Errors, fits, checked}
 use Rattle.c_nodes.specs.CState.{Cells, Frame, State, no_names}
 use Rattle.c_nodes.specs.CMeaning.{Calls, Procedure, Flow, calls_of, call, put_out, put_error, leave, on_int, on_procedure, function_of, first_of, external_in, function_in, items_of, byte_of, written_byte, statements, returned, left, entered, bound, bound_all, holding, become}
-use Rattle.c_nodes.specs.Helpers.{HasPrelude}
+use Rattle.c_nodes.specs.HelperLaws.{HasPrelude}
 use Rattle.c_nodes.specs.Prelude.{prelude_items}
 use Rattle.c_nodes.proofs.CNumbers.{byte_small, fits32_nat}
 

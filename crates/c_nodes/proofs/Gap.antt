@@ -20,7 +20,7 @@ use Rattle.c_nodes.specs.declared.tree.CStmt.TheVariants.{Assign, Call, If}
 use Rattle.c_nodes.specs.CValues.{Width, W32, W64, Base, Local, CValue, Number, Pointer, fits, truth}
 use Rattle.c_nodes.specs.CState.{Slot, Cells, Leads, Frame, State, nth, frame_slot, slot_of, object_at, put_object, change_nth, in_frame, no_names}
 use Rattle.c_nodes.specs.CMeaning.{reading, Element, block, Calls, Doing, Procedure, written_byte, stored_in, left, call, on_procedure, calls_of, statement, statements}
-use Rattle.c_nodes.specs.Helpers.{HasPrelude, gap, WritesGap}
+use Rattle.c_nodes.specs.HelperLaws.{HasPrelude, gap, WritesGap}
 use Rattle.c_nodes.proofs.CExprs.{exprs}
 use Rattle.c_nodes.proofs.CRuns.{run_assign, run_call, run_if_not, if_so, run_block}
 use Rattle.c_nodes.proofs.CCalls.{found, call_going, binds64, calls_putchar, prints}

@@ -24,7 +24,7 @@ use Rattle.c_nodes.specs.declared.tree.CStmt.TheVariants.{Assign, Call, DeclareV
 use Rattle.c_nodes.specs.CValues.{Width, W32, W64, Local, CValue, Number, fits, checked, truth, held_as}
 use Rattle.c_nodes.specs.CState.{Cells, Frame, State, nth, set_nth, element, no_names}
 use Rattle.c_nodes.specs.CMeaning.{reading, all_given, Element, block, tested, Calls, Doing, Procedure, stored_in, written_byte, call, on_procedure, calls_of, statement, statements}
-use Rattle.c_nodes.specs.Helpers.{HasPrelude, WritesInt}
+use Rattle.c_nodes.specs.HelperLaws.{HasPrelude, WritesInt}
 use Rattle.c_nodes.proofs.CExprs.{exprs}
 use Rattle.c_nodes.proofs.CNumbers.{holds_truth, fits64_nat, not_zero}
 use Rattle.c_nodes.proofs.CRuns.{run_declare_value, run_declare_array, run_assign, run_call, run_tested, run_if_not, if_so, run_block, while_is}

@@ -9,6 +9,8 @@ pub mod ExprInduction
 pub mod Gap
 pub mod Ints
 pub mod Multiply
+pub mod PreludeTexts
 pub mod Products
 pub mod StmtInduction
+pub mod Texts
 pub mod Trap

@@ -18,7 +18,7 @@ use Rattle.c_nodes.specs.declared.tree.CStmt.TheVariants.{Assign, DeclareValue, 
 use Rattle.c_nodes.specs.CValues.{Width, W32, W64, Local, CValue, Number, fits, truth, greatest64, least64}
 use Rattle.c_nodes.specs.CState.{Cells, Frame, State, closed}
 use Rattle.c_nodes.specs.CMeaning.{reading, Element, block, Calls, Doing, Procedure, Flow, Returned, stored_in, call, on_procedure, calls_of, statement, statements}
-use Rattle.c_nodes.specs.Helpers.{HasPrelude, overflows, value_or_overflow, Combines}
+use Rattle.c_nodes.specs.HelperLaws.{HasPrelude, overflows, value_or_overflow, Combines}
 use Rattle.c_nodes.proofs.CExprs.{exprs}
 use Rattle.c_nodes.proofs.CRuns.{run_declare_value, run_assign, run_return, run_if_not, if_so, if_then, if_else, run_block, stop_block}
 use Rattle.c_nodes.proofs.CCalls.{found, call_going, call_stopped}

@@ -19,7 +19,7 @@ use Rattle.c_nodes.specs.CValues.{Base, Local, Text, CValue, Number, Pointer, Er
 use Rattle.c_nodes.specs.CState.{Slot, Cells, Leads, Frame, State, no_names, nth, literal, element, closed}
 use Rattle.c_nodes.specs.CMeaning.{Reading, reading, reading_layer, Designated, Element, tested, block, Calls, Procedure, Flow, call, on_procedure, statement, statements, calls_of, written_byte}
 use Rattle.c_nodes.specs.CMeaning as meaning
-use Rattle.c_nodes.specs.Helpers.{HasPrelude}
+use Rattle.c_nodes.specs.HelperLaws.{HasPrelude}
 use Rattle.c_nodes.specs.declared.tree.CResult.TheVariants as result
 use Rattle.c_nodes.specs.declared.tree.CParameter.TheVariants as parameter
 use Rattle.c_nodes.proofs.ExprInduction.{fold-Variable, fold-Index, fold-Constant, fold-Paren, fold-Binary, fold-ToInt, fold-Literal}

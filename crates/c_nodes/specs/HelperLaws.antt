@@ -60,3 +60,16 @@ gap g k = if int_eq g (pos 0) then [] else (if int_eq g (pos 2) && int_eq k (pos
 -- `lf_gap`: writes the blank and notes the item
 abbrev pub WritesGap : Type 0
 WritesGap = (files : List CFile) (file : ℕ) → HasPrelude files file → (n d : ℕ) (up id : ℕ) (is_array : Bool) (g : ℤ) (cells : List (Option ℤ)) (v : Width) (k : ℤ) (s : State) (w : Written) → object_at (Local up id) s ≡ Some (Cells Int64 is_array (Some g ∷ cells)) → fits W64 k ≡ true → calls_of files n (suc d) file (codes "lf_gap") (Pointer (Local up id) 0 ∷ Number v k ∷ []) s w ≡ Going None (put_object (Local up id) (Cells Int64 is_array (Some k ∷ cells)) s) (record { out = w.out ++ gap g k; err = w.err })
+
+-- what the helpers of 64 bits answer for the exact result
+abbrev pub answer64 : ℤ → State → Written → Stretch State (Option CValue)
+answer64 z = value_or_overflow (fits W64 z) z
+
+-- what `lf_fit` answers
+abbrev pub answer32 : ℤ → State → Written → Stretch State (Option CValue)
+answer32 z = value_or_overflow (fits W32 z) z
+
+-- An exact result at an end of the range is the answer, and the one behind it is the trap.
+pub record AtEnd (answer : ℤ → State → Written → Stretch State (Option CValue)) (last behind : ℤ) : Type 0 where
+  pub value : (s : State) (w : Written) → answer last s w ≡ Going (Some (Number W64 last)) s w
+  pub trap : (s : State) (w : Written) → answer behind s w ≡ Stopped (overflows w)

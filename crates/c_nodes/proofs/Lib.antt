@@ -1,0 +1,16 @@
+pub mod Arithmetic
+pub mod CCalls
+pub mod CExprs
+pub mod CMonotone
+pub mod CNumbers
+pub mod CRuns
+pub mod Digits
+pub mod ExprInduction
+pub mod Gap
+pub mod Ints
+pub mod Multiply
+pub mod PreludeTexts
+pub mod Products
+pub mod StmtInduction
+pub mod Texts
+pub mod Trap

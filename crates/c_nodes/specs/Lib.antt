@@ -1,0 +1,9 @@
+pub mod CMeaning
+pub mod CState
+pub mod CValues
+pub mod Grammar
+pub mod HelperLaws
+pub mod Machine
+pub mod Prelude
+pub mod PreludeText
+pub mod Text

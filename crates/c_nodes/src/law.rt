@@ -1,0 +1,72 @@
+//! Laws of the definitions: each is the contract of a function that does nothing.
+
+ghost use Rattle.std.specs.Prelude.{◌≡◌, ℕ, List, [], ◌∷◌, codes, pos, negsuc, ◌+ℤ◌, ◌-ℤ◌, ◌*ℤ◌, None};
+ghost use Rattle.std.specs.Fmt.{signed_decimal};
+ghost use Rattle.lf_base.specs.Outcome.{Ended, written};
+ghost use Rattle.lf_base.specs.Near.{IsMonotone};
+ghost use Rattle.c_nodes.specs.declared.tree.CFile.{CFile};
+ghost use Rattle.c_nodes.specs.CValues.{least32, greatest32, least64, greatest64};
+ghost use Rattle.c_nodes.specs.CMeaning.{CMeaning};
+ghost use Rattle.c_nodes.specs.HelperLaws.{Traps, TrapsOver, Fits, Combines, WritesGap, WritesInt, trapped, answer32, answer64, AtEnd, gap};
+
+/// Larger bounds keep the end of a C program with its output and its status, and never shorten what it
+/// writes.
+pub fn larger_bounds()
+    ensures { (files : List CFile) (input : List ℕ) → IsMonotone (CMeaning files input) }
+{}
+
+/// `lf_trap` writes the trap's name and ends with status 100 and its number.
+pub fn lf_trap_ends()
+    ensures ends { Traps }
+    ensures text { trapped 1 (codes "IntegerOverflow") (written [] []) ≡ Ended (written [] (codes "lf: trap IntegerOverflow\n")) 101 None }
+{}
+
+/// `lf_over` is the trap of an integer that does not fit.
+pub fn lf_over_ends()
+    ensures { TrapsOver }
+{}
+
+/// `lf_fit` answers a number of 32 bits, and traps for every other.
+pub fn lf_fit_fits()
+    ensures value { Fits }
+    ensures greatest { AtEnd answer32 greatest32 (pos 2147483648) }
+    ensures least { AtEnd answer32 least32 (negsuc 2147483648) }
+{}
+
+/// `lf_add` answers the sum where 64 bits hold it, and traps for every other.
+pub fn lf_add_adds()
+    ensures value { Combines (codes "lf_add") (λ a b. a +ℤ b) }
+    ensures greatest { AtEnd answer64 (pos 9223372036854775806 +ℤ pos 1) (greatest64 +ℤ pos 1) }
+    ensures least { AtEnd answer64 (negsuc 9223372036854775806 +ℤ negsuc 0) (least64 +ℤ negsuc 0) }
+{}
+
+/// `lf_sub` answers the difference where 64 bits hold it, and traps for every other.
+pub fn lf_sub_subtracts()
+    ensures value { Combines (codes "lf_sub") (λ a b. a -ℤ b) }
+    ensures greatest { AtEnd answer64 (pos 9223372036854775806 -ℤ negsuc 0) (greatest64 -ℤ negsuc 0) }
+    ensures least { AtEnd answer64 (negsuc 9223372036854775806 -ℤ pos 1) (least64 -ℤ pos 1) }
+{}
+
+/// `lf_mul` answers the product where 64 bits hold it, and traps for every other.
+pub fn lf_mul_multiplies()
+    ensures value { Combines (codes "lf_mul") (λ a b. a *ℤ b) }
+    ensures greatest { AtEnd answer64 (greatest64 *ℤ pos 1) (least64 *ℤ negsuc 0) }
+    ensures least { AtEnd answer64 (least64 *ℤ pos 1) (negsuc 4611686018427387904 *ℤ pos 2) }
+{}
+
+/// `lf_gap` writes the blank that stands between two items of a record, if one does.
+pub fn lf_gap_parts()
+    ensures value { WritesGap }
+    ensures first { gap (pos 0) (pos 1) ≡ [] }
+    ensures numbers { gap (pos 1) (pos 1) ≡ codes " " }
+    ensures characters { gap (pos 2) (pos 2) ≡ [] }
+    ensures mixed { gap (pos 2) (pos 1) ≡ codes " " }
+{}
+
+/// `lf_int` writes a number in its fewest digits.
+pub fn lf_int_writes()
+    ensures value { WritesInt }
+    ensures zero { signed_decimal (pos 0) ≡ codes "0" }
+    ensures greatest { signed_decimal greatest64 ≡ codes "9223372036854775807" }
+    ensures least { signed_decimal least64 ≡ codes "-9223372036854775808" }
+{}

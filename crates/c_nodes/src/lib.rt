@@ -1,0 +1,16 @@
+//! C files of the profile that the compiler writes: their shapes, their one spelling, the prelude, and what
+//! files that are one program do.
+#![tactic(auto)]
+
+mod helpers;
+pub mod law;
+mod machine;
+mod numbers;
+mod piece;
+mod print;
+mod sequences;
+mod tree;
+
+pub use helpers::prelude;
+pub use print::print_c;
+pub use tree::{CBinary, CExpr, CFile, CItem, CParameter, CResult, CStmt, CType};

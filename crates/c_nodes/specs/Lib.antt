@@ -1,0 +1,4 @@
+pub mod Grammar
+pub mod Prelude
+pub mod PreludeText
+pub mod Text

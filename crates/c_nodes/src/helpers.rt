@@ -4,7 +4,8 @@ ghost use Rattle.c_nodes.specs.Prelude.{prelude_file};
 ghost use Rattle.c_nodes.specs.PreludeText.{prelude_text};
 
 use crate::machine::{Fault, made};
-use crate::table::TABLE;
+use crate::numbers::NUMBERS;
+use crate::sequences::SEQUENCES;
 use crate::tree::CFile;
 use lf_base::Memory;
 use std::alloc::Global;
@@ -15,7 +16,7 @@ pub fn prelude(alloc: Global) -> Result<CFile, Memory>
     ensures file { IfOk result (λ file. file ≡ prelude_file) }
     ensures text { IfOk result (λ file. Spells prelude_text file) }
 {
-    match made(alloc, &TABLE) {
+    match made(alloc, &NUMBERS, &SEQUENCES) {
         Ok(machine) => Ok(CFile {
             items: machine.items,
         }),

@@ -3,9 +3,10 @@
 
 mod helpers;
 mod machine;
+mod numbers;
 mod piece;
 mod print;
-mod table;
+mod sequences;
 mod tree;
 
 pub use helpers::prelude;

@@ -1,7 +1,7 @@
 //! Makes functions from a table of pieces, with a stack of values and a stack of blocks.
 
 ghost use Rattle.std.specs.Prelude.{◌≡◌};
-ghost use Rattle.c_nodes.specs.Machine.{start, state_of, with_value, with_stmt, without_arguments, with_parameter, with_item, with_function, word_text, callee_text, taken, run, Took, Made, Popped, Closed};
+ghost use Rattle.c_nodes.specs.Machine.{start, state_of, with_value, with_stmt, without_arguments, with_parameter, with_item, with_function, word_text, callee_text, taken, go_on, run, Took, Made, Popped, Closed};
 
 use crate::piece::{Callee, Message, Piece, Word};
 use crate::tree::{CBinary, CExpr, CItem, CParameter, CResult, CStmt, CType};
@@ -412,11 +412,12 @@ impl Machine {
     }
 }
 
-/// What the pieces make, from nothing.
-pub fn made(alloc: Global, pieces: &[Piece]) -> Result<Machine, Fault>
-    ensures { Made result (run pieces.now start) }
+/// What both tables make, one behind the other, from nothing.
+pub fn made(alloc: Global, first: &[Piece], second: &[Piece]) -> Result<Machine, Fault>
+    ensures { Made result (go_on (run first.now start) (run second.now)) }
 {
     let mut machine = Machine::new(alloc);
-    machine.run(alloc, pieces)?;
+    machine.run(alloc, first)?;
+    machine.run(alloc, second)?;
     Ok(machine)
 }

@@ -1,10 +1,10 @@
 -- The prelude as trees is a file of the profile, and it has the text of the prelude.
-use Rattle.std.proofs.Common.{◌≡◌, Bool, true, IsTrue, List, [], ◌∷◌, refl, sym}
+use Rattle.std.proofs.Common.{◌≡◌, Bool, true, [], refl, sym}
 use Rattle.std.specs.Fmt.{digits}
 use Rattle.std.specs.List.{list_all}
 use Rattle.lf_base.specs.Contents.{joined}
 use Rattle.c_nodes.specs.Text.{file_text}
-use Rattle.c_nodes.specs.Grammar.{Standing, standing_layer, stmt_layer, is_item, IsGrammatical, Spells}
+use Rattle.c_nodes.specs.Grammar.{Standing, standing_layer, stmt_layer, is_item, Spells}
 use Rattle.c_nodes.specs.Prelude.{prelude_items, prelude_file}
 use Rattle.c_nodes.specs.PreludeText.{prelude_text}
 use Rattle.c_nodes.proofs.ExprInduction as expressions

@@ -1,7 +1,9 @@
-//! C files of the profile that the compiler writes.
+//! C files of the profile that the compiler writes (ISO/IEC 9899:1999): their shapes, their one text, and the
+//! prelude with which each begins.
 #![tactic(auto)]
 
 mod helpers;
+pub mod law;
 mod machine;
 mod numbers;
 mod piece;

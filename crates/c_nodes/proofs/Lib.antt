@@ -1,4 +1,5 @@
 pub mod ExprInduction
+pub mod GrammarShapes
 pub mod PreludeTexts
 pub mod StmtInduction
 pub mod Texts

@@ -1,6 +1,5 @@
 -- The text of each shape, and what the printing functions cite.
-use Rattle.std.proofs.Common.{◌≡◌, ℕ, List, [], ◌∷◌, codes, Bool}
-use Rattle.std.specs.Fmt.{decimal}
+use Rattle.std.proofs.Common.{◌≡◌, ℕ, List, [], ◌∷◌, codes}
 use Rattle.std.proofs.lemmas.Grind.{common_steps}
 use Rattle.std.proofs.lemmas.List.{nil_from_length}
 use Rattle.lf_base.proofs.Chains.{chains, looping}
@@ -12,7 +11,7 @@ use Rattle.c_nodes.specs.declared.tree.CExpr.{CExpr}
 use Rattle.c_nodes.specs.declared.tree.CExpr.TheVariants.{Variable, Index, Constant, Greatest, Least, Paren, Negate, Not, Binary, Cast, ToInt, Address, Literal}
 use Rattle.c_nodes.specs.declared.tree.CStmt.{CStmt}
 use Rattle.c_nodes.specs.declared.tree.CStmt.TheVariants.{Declare, DeclareArray, DeclareValue, DeclarePointer, DeclareCall, Assign, AssignCall, Call, Return, ReturnValue, ReturnCall, Block, While, If, IfElse}
-use Rattle.c_nodes.specs.Text.{type_text, operator_text, constant_text, literal_text, subscript_text, cast_text, expr_layer, expr_text, declared_text, pointer_text, call_text, stored_text, received_text, array_text, returned_text, returned_call_text, opened_text, closed_text, else_text, stmt_layer, stmt_text, stmt_texts}
+use Rattle.c_nodes.specs.Text.{operator_text, constant_text, literal_text, subscript_text, cast_text, expr_layer, expr_text, declared_text, pointer_text, call_text, stored_text, received_text, array_text, returned_text, returned_call_text, opened_text, closed_text, else_text, stmt_layer, stmt_text, stmt_texts}
 use Rattle.c_nodes.proofs.ExprInduction as expressions
 use Rattle.c_nodes.proofs.StmtInduction as statements
 

@@ -130,16 +130,21 @@ abbrev pub is_item : CItem → Bool
 is_item (Prototype result name parameters) = is_head result name parameters
 is_item (Function is_static result name parameters body) = is_head result name parameters && list_all is_stmt body
 
-abbrev pub is_internal : CItem → Bool
-is_internal (Prototype result name parameters) = false
-is_internal (Function is_static result name parameters body) = is_static
+-- whether other files see the function (6.2.2)
+abbrev pub is_external : CItem → Bool
+is_external (Prototype result name parameters) = true
+is_external (Function is_static result name parameters body) = not is_static
+
+-- the prelude, and items behind it
+abbrev pub file_with : List CItem → CFile
+file_with rest = record { items = prelude_items ++ rest }
 
 -- A file begins with the items of the prelude, and behind them nothing is `static`.
 pub record IsGrammatical (file : CFile) : Type 0 where
   pub rest : List CItem
   pub begins : file.items ≡ prelude_items ++ rest
   pub items : IsTrue (list_all is_item file.items)
-  pub external : IsTrue (list_all (λ item. not (is_internal item)) rest)
+  pub external : IsTrue (list_all is_external rest)
 
 -- A file of the profile has one spelling: its text.
 pub record Spells (bytes : List ℕ) (file : CFile) : Type 0 where

@@ -1,6 +1,6 @@
 -- The text of a C file, shape by shape: expressions, declarations, statements and external definitions
 -- (ISO/IEC 9899:1999, 6.5, 6.7, 6.8, 6.9), each line without indentation.
-use Rattle.std.specs.Prelude.{ℕ, ◌+◌, ◌/◌, ◌%◌, Bool, true, false, if◌then◌else◌, ◌&&◌, ◌==◌, not, nat_le, List, [], ◌∷◌, codes, map, flat_map}
+use Rattle.std.specs.Prelude.{ℕ, ◌+◌, ◌/◌, ◌%◌, Bool, true, false, if◌then◌else◌, ◌&&◌, ◌==◌, not, nat_le, List, [], ◌∷◌, codes, map}
 use Rattle.std.specs.Fmt.{decimal}
 use Rattle.lf_base.specs.Contents.{joined}
 use Rattle.c_nodes.specs.declared.tree.CType.{CType}

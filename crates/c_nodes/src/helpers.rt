@@ -1,3 +1,5 @@
+//! The functions in C with which each printed file begins.
+
 ghost use Rattle.std.specs.Prelude.{◌≡◌, IfOk};
 ghost use Rattle.c_nodes.specs.Grammar.{Spells};
 ghost use Rattle.c_nodes.specs.Prelude.{prelude_file};
@@ -10,8 +12,10 @@ use crate::tree::CFile;
 use lf_base::Memory;
 use std::alloc::Global;
 
-/// The prelude: the file that has nothing but the functions with which each printed file begins. It fails
-/// only for want of memory.
+/// The prelude: the file that holds nothing but the functions with which each printed file begins. In 64 bits
+/// they do what ISO/IEC 1539-1:2018 asks of integer operations (10.1.5.2), of subscripts and substrings (9.5.3,
+/// 9.4.1), of concatenation and comparison (10.1.5.3, 10.1.5.5), of intrinsic procedures (16.9) and of
+/// list-directed output (13.10.4), or end the program with a trap. The call fails only for want of memory.
 pub fn prelude(alloc: Global) -> Result<CFile, Memory>
     ensures file { IfOk result (λ file. file ≡ prelude_file) }
     ensures text { IfOk result (λ file. Spells prelude_text file) }

@@ -7,7 +7,13 @@ ghost use Rattle.lf_base.specs.Near.{IsMonotone};
 ghost use Rattle.c_nodes.specs.declared.tree.CFile.{CFile};
 ghost use Rattle.c_nodes.specs.CValues.{least32, greatest32, least64, greatest64};
 ghost use Rattle.c_nodes.specs.CMeaning.{CMeaning};
+ghost use Rattle.c_nodes.specs.Grammar.{Spells};
 ghost use Rattle.c_nodes.specs.HelperLaws.{Traps, TrapsOver, Fits, Combines, WritesGap, WritesInt, trapped, answer32, answer64, AtEnd, gap};
+
+/// A C file has at most one spelling.
+pub fn one_spelling()
+    ensures { (file : CFile) (a b : List ℕ) → Spells a file → Spells b file → a ≡ b }
+{}
 
 /// Larger bounds keep the end of a C program with its output and its status, and never shorten what it
 /// writes.

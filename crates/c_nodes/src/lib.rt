@@ -1,5 +1,5 @@
-//! C files of the profile that the compiler writes: their shapes, their one spelling, the prelude, and what
-//! files that are one program do.
+//! C files of the profile that the compiler writes (ISO/IEC 9899:1999): their shapes, their one text, the
+//! prelude with which each begins, and what files that are one program do.
 #![tactic(auto)]
 
 mod helpers;

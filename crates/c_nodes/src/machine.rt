@@ -39,8 +39,8 @@ impl From<lf_base::Memory> for Fault {
 }
 
 /// What is made so far: the values, with the newest in front; in order, the arguments of the next call, the
-/// statements of the innermost block, the parameters of the next function, and the functions; and the
-/// blocks around the innermost, which is behind their last statements.
+/// statements of the innermost block, the parameters of the next function, and the functions; and the blocks
+/// that are open around the innermost, the nearest in front.
 #[derive(Drop)]
 pub struct Machine {
     pub values: VecDeque<CExpr>,

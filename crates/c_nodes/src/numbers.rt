@@ -119,7 +119,7 @@ pub const NUMBERS: [Piece; 447] = [
     Piece::Variable(Word::B),
     Piece::Binary(CBinary::Less),
     Piece::Paren,
-    Piece::Greatest,
+    Piece::Greatest, // bound 1 of lf_add
     Piece::Variable(Word::B),
     Piece::Binary(CBinary::Subtract),
     Piece::Paren,
@@ -133,7 +133,7 @@ pub const NUMBERS: [Piece; 447] = [
     Piece::Binary(CBinary::Less),
     Piece::Paren,
     Piece::Variable(Word::A),
-    Piece::Least,
+    Piece::Least, // bound 2 of lf_add
     Piece::Variable(Word::B),
     Piece::Binary(CBinary::Subtract),
     Piece::Paren,
@@ -158,7 +158,7 @@ pub const NUMBERS: [Piece; 447] = [
     Piece::Number(0),
     Piece::Binary(CBinary::Less),
     Piece::Paren,
-    Piece::Greatest,
+    Piece::Greatest, // bound 1 of lf_sub
     Piece::Variable(Word::B),
     Piece::Binary(CBinary::Add),
     Piece::Paren,
@@ -172,7 +172,7 @@ pub const NUMBERS: [Piece; 447] = [
     Piece::Binary(CBinary::Less),
     Piece::Paren,
     Piece::Variable(Word::A),
-    Piece::Least,
+    Piece::Least, // bound 2 of lf_sub
     Piece::Variable(Word::B),
     Piece::Binary(CBinary::Add),
     Piece::Paren,
@@ -196,7 +196,7 @@ pub const NUMBERS: [Piece; 447] = [
     Piece::Body,
     Piece::Body,
     Piece::Variable(Word::Bad),
-    Piece::Greatest,
+    Piece::Greatest, // bound 1 of lf_mul
     Piece::Variable(Word::B),
     Piece::Binary(CBinary::Divide),
     Piece::Paren,
@@ -206,7 +206,7 @@ pub const NUMBERS: [Piece; 447] = [
     Piece::Body,
     Piece::Variable(Word::Bad),
     Piece::Variable(Word::B),
-    Piece::Least,
+    Piece::Least, // bound 2 of lf_mul
     Piece::Variable(Word::A),
     Piece::Binary(CBinary::Divide),
     Piece::Paren,
@@ -220,7 +220,7 @@ pub const NUMBERS: [Piece; 447] = [
     Piece::Body,
     Piece::Variable(Word::Bad),
     Piece::Variable(Word::A),
-    Piece::Least,
+    Piece::Least, // bound 3 of lf_mul
     Piece::Variable(Word::B),
     Piece::Binary(CBinary::Divide),
     Piece::Paren,
@@ -230,7 +230,7 @@ pub const NUMBERS: [Piece; 447] = [
     Piece::Body,
     Piece::Variable(Word::Bad),
     Piece::Variable(Word::A),
-    Piece::Greatest,
+    Piece::Greatest, // bound 4 of lf_mul
     Piece::Variable(Word::B),
     Piece::Binary(CBinary::Divide),
     Piece::Paren,
@@ -267,7 +267,7 @@ pub const NUMBERS: [Piece; 447] = [
     Piece::Body,
     Piece::Call(Callee::Over),
     Piece::Variable(Word::A),
-    Piece::Least,
+    Piece::Least, // bound 1 of lf_div
     Piece::Binary(CBinary::Equal),
     Piece::Paren,
     Piece::Variable(Word::B),

@@ -1,3 +1,6 @@
+//! Prints a C file piece by piece. Each function is handed how the puts before it ended, puts nothing after a
+//! failure, and hands on how its own ended.
+
 ghost use Rattle.std.specs.Prelude.{[], ◌∷◌, Ok, OnOk, OnErr};
 ghost use Rattle.std.specs.Fmt.{decimal};
 ghost use Rattle.lf_base.specs.Causes.{HasCause};

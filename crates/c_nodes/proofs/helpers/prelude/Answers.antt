@@ -1,8 +1,7 @@
-use Rattle.std.proofs.Common.{◌≡◌, [], Option, Some, None, ap, sym, subst}
+use Rattle.std.proofs.Common.{[], Option, Some, None, ap, sym, subst}
 use Rattle.c_nodes.specs.declared.tree.CFile.{CFile}
 use Rattle.c_nodes.specs.Grammar.{Spells}
 use Rattle.c_nodes.specs.Machine.{State}
-use Rattle.c_nodes.specs.Prelude.{prelude_file}
 use Rattle.c_nodes.specs.PreludeText.{prelude_text}
 use Rattle.c_nodes.proofs.PreludeTexts.{prelude_spelled}
 use Rattle.c_nodes.proofs.helpers.prelude.Goals as goal

@@ -1,0 +1,8 @@
+use Rattle.c_nodes.proofs.PreludeTexts.{grammatical_with, file_text-file_with}
+use Rattle.c_nodes.proofs.law.prelude_goes_on.Goals as goal
+
+pub returns-clause-grammatical : goal.returns-clause-grammatical
+returns-clause-grammatical c rest = grammatical_with rest
+
+pub returns-clause-text : goal.returns-clause-text
+returns-clause-text c rest = file_text-file_with rest

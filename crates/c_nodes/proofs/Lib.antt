@@ -1,0 +1,2 @@
+pub mod ExprInduction
+pub mod StmtInduction

@@ -1,0 +1,218 @@
+//! The shapes of a C file. They restate the part of ISO/IEC 9899:1999 that the compiler writes: expressions
+//! (6.5), declarations (6.7), statements (6.8) and function definitions (6.9.1), each as one line or as lines
+//! around a block. A tree is one derivation: parentheses stand in it as nodes of their own.
+
+use lf_base::Name;
+use sqlite_items::{Boxed, Items};
+
+/// The type of an object (6.7.2).
+#[derive(Debug, Drop)]
+pub enum CType {
+    /// `int64_t`
+    Int64,
+    /// `int32_t`
+    Int32,
+    /// `unsigned char`
+    Byte,
+}
+
+/// The type that a function returns (6.7.5.3).
+#[derive(Debug, Drop)]
+pub enum CResult {
+    /// `void`
+    Void,
+    /// `int64_t`
+    Int64,
+    /// `int`, which `main` alone returns
+    Int,
+}
+
+/// A parameter of a function (6.7.5.3).
+#[derive(Drop)]
+pub enum CParameter {
+    /// `T N`
+    Value { kind: CType, name: Name },
+    /// `T *N`
+    Pointer { kind: CType, name: Name },
+}
+
+/// An operator between two operands (6.5.5, 6.5.6, 6.5.8, 6.5.9, 6.5.13, 6.5.14).
+#[derive(Clone, Copy, Debug, PartialEq, Eq)]
+pub enum CBinary {
+    Add,
+    Subtract,
+    Multiply,
+    Divide,
+    Remainder,
+    Less,
+    AtMost,
+    Equal,
+    Differ,
+    And,
+    Or,
+}
+
+/// An expression (6.5). A place is a variable or an element of a place. Operands and places that are indexed
+/// are places, constants or in parentheses.
+#[derive(Drop)]
+pub enum CExpr {
+    /// `N`
+    Variable {
+        name: Name,
+    },
+    /// `L[X]`
+    Index {
+        base: Boxed<CExpr>,
+        subscript: Boxed<CExpr>,
+    },
+    /// A constant that is not negative.
+    Constant {
+        value: u64,
+    },
+    /// `INT64_MAX`
+    Greatest,
+    /// `INT64_MIN`
+    Least,
+    /// `(X)`
+    Paren {
+        inner: Boxed<CExpr>,
+    },
+    /// `-A`
+    Negate {
+        operand: Boxed<CExpr>,
+    },
+    /// `!A`
+    Not {
+        operand: Boxed<CExpr>,
+    },
+    /// `A op A`
+    Binary {
+        operator: CBinary,
+        left: Boxed<CExpr>,
+        right: Boxed<CExpr>,
+    },
+    /// `(T)A`
+    Cast {
+        kind: CType,
+        operand: Boxed<CExpr>,
+    },
+    /// `(int)A`
+    ToInt {
+        operand: Boxed<CExpr>,
+    },
+    /// `&L`
+    Address {
+        place: Boxed<CExpr>,
+    },
+    /// `(unsigned char *)"bytes"`
+    Literal {
+        bytes: Items<u8>,
+    },
+}
+
+/// A declaration in a block (6.7) or a statement (6.8).
+#[derive(Drop)]
+pub enum CStmt {
+    /// `T N;`
+    Declare {
+        kind: CType,
+        name: Name,
+    },
+    /// `T N[X];`
+    DeclareArray {
+        kind: CType,
+        name: Name,
+        size: CExpr,
+    },
+    /// `T N = X;`
+    DeclareValue {
+        kind: CType,
+        name: Name,
+        value: CExpr,
+    },
+    /// `T *N = X;`
+    DeclarePointer {
+        kind: CType,
+        name: Name,
+        value: CExpr,
+    },
+    /// `T N = N(X, X);`
+    DeclareCall {
+        kind: CType,
+        name: Name,
+        callee: Name,
+        arguments: Items<CExpr>,
+    },
+    /// `L = X;`
+    Assign {
+        target: CExpr,
+        value: CExpr,
+    },
+    /// `L = N(X, X);`
+    AssignCall {
+        target: CExpr,
+        callee: Name,
+        arguments: Items<CExpr>,
+    },
+    /// `N(X, X);`
+    Call {
+        callee: Name,
+        arguments: Items<CExpr>,
+    },
+    /// `return;`
+    Return,
+    /// `return X;`
+    ReturnValue {
+        value: CExpr,
+    },
+    /// `return N(X, X);`
+    ReturnCall {
+        callee: Name,
+        arguments: Items<CExpr>,
+    },
+    /// `{`, statements, `}`
+    Block {
+        body: Items<CStmt>,
+    },
+    /// `while (X) {`, statements, `}`
+    While {
+        test: CExpr,
+        body: Items<CStmt>,
+    },
+    /// `if (X) {`, statements, `}`
+    If {
+        test: CExpr,
+        then_body: Items<CStmt>,
+    },
+    /// `if (X) {`, statements, `} else {`, statements, `}`
+    IfElse {
+        test: CExpr,
+        then_body: Items<CStmt>,
+        else_body: Items<CStmt>,
+    },
+}
+
+/// A declaration or definition of a function (6.7, 6.9.1).
+#[derive(Drop)]
+pub enum CItem {
+    /// `R N(P);`
+    Prototype {
+        result: CResult,
+        name: Name,
+        parameters: Items<CParameter>,
+    },
+    /// `R N(P) {`, statements, `}`, with `static` in front in the prelude alone.
+    Function {
+        is_static: bool,
+        result: CResult,
+        name: Name,
+        parameters: Items<CParameter>,
+        body: Items<CStmt>,
+    },
+}
+
+/// A translation unit (6.9): three headers, and the items behind them, which begin with those of the prelude.
+#[derive(Drop)]
+pub struct CFile {
+    pub items: Items<CItem>,
+}

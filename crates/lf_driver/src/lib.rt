@@ -1,0 +1,7 @@
+//! The top call: from the words of a command line to files, texts and a status.
+#![tactic(auto)]
+
+mod command;
+mod program;
+
+pub use command::{Command, Usage, Verb, words};

@@ -1,6 +1,6 @@
 -- The program that statements are: a main program (ISO/IEC 1539-1:2018, 14.1) with one `print` statement (12.6.1),
 -- whose value is literals joined by operators (10.1.2).
-use Rattle.std.specs.Prelude.{◌≡◌, ℕ, ◌+◌, ◌-◌, ◌*◌, ◌≤◌, Bool, false, List, [], ◌∷◌, map, codes, bytes_eq, Option, Some, None, Result, Ok, Err, if◌then◌else◌, ◌&&◌, nat_le}
+use Rattle.std.specs.Prelude.{◌≡◌, ℕ, ◌+◌, ◌-◌, ◌*◌, ◌≤◌, Bool, true, false, List, [], ◌∷◌, map, codes, bytes_eq, Option, Some, None, Result, Ok, Err, if◌then◌else◌, ◌&&◌, nat_le}
 use Rattle.std.specs.List.{AllByRecursion}
 use Rattle.lf_base.specs.declared.rule.Rule.{Rule}
 use Rattle.lf_base.specs.declared.rule.Rule.TheVariants.{E202}
@@ -9,6 +9,10 @@ use Rattle.ff_lexer.specs.declared.token.Kind.TheVariants.{Word, Number, Text, M
 use Rattle.ff_lexer.specs.Statements.{Spelled}
 use Rattle.lf_driver.specs.declared.program.Operator.{Operator}
 use Rattle.lf_driver.specs.declared.program.Operator.TheVariants.{Add, Subtract, Multiply}
+
+abbrev pub is_empty : List Spelled → Bool
+is_empty [] = true
+is_empty (token ∷ tokens) = false
 
 -- the value that is printed
 pub data Tree : Type 0 where
@@ -89,9 +93,13 @@ abbrev pub chain_of : List Spelled → Option Chain
 chain_of [] = None
 chain_of (literal ∷ tokens) = chain (literal_of literal) (operations_of tokens)
 
+abbrev pub word_of : Spelled → Option (List ℕ)
+word_of (Word, bytes) = Some bytes
+word_of (kind, bytes) = None
+
 -- the name of `program N`
 abbrev pub name_of : List Spelled → Option (List ℕ)
-name_of (program ∷ (Word, name) ∷ []) = if is_word (codes "program") program then Some name else None
+name_of (program ∷ name ∷ []) = if is_word (codes "program") program then word_of name else None
 name_of tokens = None
 
 -- what `print *, E` prints
@@ -99,11 +107,19 @@ abbrev pub printed_of : List Spelled → Option Chain
 printed_of (print ∷ star ∷ comma ∷ tokens) = if is_word (codes "print") print && is_mark (codes "*") star && is_mark (codes ",") comma then chain_of tokens else None
 printed_of tokens = None
 
+-- the name that may stand behind `end program`
+abbrev pub is_last : List ℕ → List Spelled → Bool
+is_last name [] = true
+is_last name (last ∷ tokens) = is_word name last && is_empty tokens
+
+abbrev pub is_end_of : List ℕ → List Spelled → Bool
+is_end_of name [] = false
+is_end_of name (program ∷ tokens) = is_word (codes "program") program && is_last name tokens
+
 -- `end program`, or `end program N` with the name of the program
 abbrev pub is_end : List ℕ → List Spelled → Bool
-is_end name (end ∷ program ∷ []) = is_word (codes "end") end && is_word (codes "program") program
-is_end name (end ∷ program ∷ last ∷ []) = is_word (codes "end") end && is_word (codes "program") program && is_word name last
-is_end name tokens = false
+is_end name [] = false
+is_end name (end ∷ tokens) = is_word (codes "end") end && is_end_of name tokens
 
 -- a program, or the line and the rule of the first fault
 abbrev pub Judged : Type 0

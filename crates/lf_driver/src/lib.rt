@@ -2,6 +2,6 @@
 #![tactic(auto)]
 
 mod command;
-mod program;
+pub mod program;
 
 pub use command::{Command, Usage, Verb, words};

@@ -1,2 +1,4 @@
 pub mod ExprInduction
+pub mod PreludeTexts
 pub mod StmtInduction
+pub mod Texts

@@ -1,3 +1,5 @@
 pub mod Source
 pub mod Words
 pub mod Parse
+pub mod Lowered
+pub mod Emit

@@ -2,6 +2,7 @@
 #![tactic(auto)]
 
 mod command;
+pub mod lower;
 pub mod program;
 
 pub use command::{Command, Usage, Verb, words};

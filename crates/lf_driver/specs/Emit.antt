@@ -46,3 +46,8 @@ step_count p (operator, value) = added_count p.sum + 1
 abbrev pub emitted : Partial → ℕ → List Operation → List CStmt
 emitted p behind [] = added p.sum p.term behind
 emitted p behind (o ∷ os) = step p behind o ++ emitted (step_to p behind o) (behind + step_count p o) os
+
+-- how many temporaries there are behind them
+abbrev pub emitted_count : Partial → ℕ → List Operation → ℕ
+emitted_count p behind [] = behind + added_count p.sum
+emitted_count p behind (o ∷ os) = emitted_count (step_to p behind o) (behind + step_count p o) os

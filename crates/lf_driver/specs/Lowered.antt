@@ -10,6 +10,8 @@ use Rattle.c_nodes.specs.declared.tree.CStmt.{CStmt}
 use Rattle.c_nodes.specs.declared.tree.CStmt.TheVariants.{DeclareValue, DeclareCall, Call, Return, ReturnValue, Block}
 use Rattle.c_nodes.specs.declared.tree.CItem.{CItem}
 use Rattle.c_nodes.specs.declared.tree.CItem.TheVariants.{Prototype, Function}
+use Rattle.c_nodes.specs.declared.tree.CFile.{CFile}
+use Rattle.c_nodes.specs.Prelude.{prelude_file}
 use Rattle.lf_driver.specs.declared.program.Operator.{Operator}
 use Rattle.lf_driver.specs.declared.program.Operator.TheVariants.{Add, Subtract, Multiply}
 use Rattle.lf_driver.specs.Source.{Tree, Literal, Binary, Source}
@@ -62,9 +64,13 @@ printing_ends number = Call (codes "lf_gap") (Address (Variable (codes "r1")) �
 abbrev pub printed : Tree → List CStmt
 printed value = (printing_begins ++ lowered value 0) ++ printing_ends (count value)
 
+-- the name in C of a program: `lf`, and the name behind its length
+abbrev pub unit_name : List ℕ → List ℕ
+unit_name name = ((codes "lf_" ++ decimal (length name)) ++ codes "_") ++ name
+
 -- the function that sets the saved variables of a program, of which there are none
 abbrev pub init_name : List ℕ → List ℕ
-init_name name = codes "lf_" ++ (decimal (length name) ++ (codes "_" ++ (name ++ codes "_init")))
+init_name name = unit_name name ++ codes "_init"
 
 abbrev pub init_prototype : List ℕ → CItem
 init_prototype name = Prototype Void (init_name name) []
@@ -81,3 +87,6 @@ main_function source = Function false Int (codes "main") [] (main_body source)
 -- the items of a program's file behind those of the prelude
 abbrev pub lowered_items : Source → List CItem
 lowered_items source = init_prototype source.name ∷ init_function source.name ∷ main_function source ∷ []
+
+abbrev pub lowered_file : Source → CFile
+lowered_file source = record { items = prelude_file.items ++ lowered_items source }

@@ -1,3 +1,4 @@
 pub mod Lowers
+pub mod Tellings
 pub mod Tokens
 pub mod Values

@@ -3,3 +3,5 @@ pub mod Words
 pub mod Parse
 pub mod Lowered
 pub mod Emit
+pub mod Ends
+pub mod Verdict

@@ -3,6 +3,7 @@
 
 mod command;
 pub mod lower;
+pub mod outcome;
 pub mod program;
 
 pub use command::{Command, Usage, Verb, words};

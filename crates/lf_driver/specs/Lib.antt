@@ -5,3 +5,4 @@ pub mod Lowered
 pub mod Emit
 pub mod Ends
 pub mod Verdict
+pub mod Compile

@@ -2,6 +2,7 @@
 #![tactic(auto)]
 
 mod command;
+pub mod compile;
 pub mod lower;
 pub mod outcome;
 pub mod program;

@@ -1,0 +1,9 @@
+-- The name of a C file.
+use Rattle.std.proofs.Common.{◌≡◌, ℕ, ◌-◌, true, List, ◌++◌, length, take, drop, Option, Some, None, sym, ap, ◌∙◌, codes}
+use Rattle.std.proofs.lemmas.List.{take-append-drop}
+use Rattle.std.proofs.lemmas.Slice.Eq.{bytes_eq-Decides}
+use Rattle.lf_driver.specs.Words.{ends_as_source}
+
+-- a source's name is a stem and its end
+pub stem_is : (file : List ℕ) → ends_as_source file ≡ true → file ≡ take (length file - 4) file ++ codes ".f90"
+stem_is file h = sym (take-append-drop (length file - 4) file) ∙ ap (λ t. take (length file - 4) file ++ t) ((bytes_eq-Decides (drop (length file - 4) file) (codes ".f90")).0 h)

@@ -82,3 +82,58 @@ fn save<S: Store>(store: &mut S, name: &str, bytes: &[u8]) -> Result<(), PutFaul
     store.put(bytes)?;
     store.finish()
 }
+
+fn write_file<S: Store>(alloc: Global, file: &str, text: &[u8], store: &mut S) -> Result<(), PutFault>
+    requires { ends_as_source file.now ≡ true }
+    ensures ok { OnOk result (Saved (S.files store.old) (c_name file.now) text.now (S.files store.new)) }
+    ensures err { OnErr result (S.files store.new ≡ S.files store.old) }
+    ensures read_faults { S.read_faults store.new ≡ S.read_faults store.old }
+    ensures cause { HasCause (S.Sink.faults store.old) (S.Sink.faults store.new) result }
+{
+    match c_name(alloc, file) {
+        Ok(name) => save(store, name.as_str(), text),
+        Err(_) => Err(PutFault::Memory),
+    }
+}
+
+// What comes of a file whose text was read.
+#[tactic(auto, using(crate::proofs::Saving::text_done, crate::proofs::Saving::text_refused))]
+fn finish_file<'a, S: Store>(alloc: Global, file: &'a str, bytes: &[u8], store: &mut S) -> Outcome<'a>
+    requires { ends_as_source file.now ≡ true }
+    ensures comes { TextComesTo result (of_source file.now (source_in bytes.now)) (S.files store.old) (S.files store.new) }
+    ensures counts { Counts result (S.read_faults store.old) (S.read_faults store.new) (S.Sink.faults store.old) (S.Sink.faults store.new) }
+{
+    match translated(alloc, bytes) {
+        Ok(text) => match write_file(alloc, file, text.bytes(), store) {
+            Ok(()) => Outcome::Done,
+            Err(PutFault::Failed) => Outcome::WriteFault,
+            Err(PutFault::Memory) => Outcome::Memory,
+        },
+        Err(SyntaxFault::At { line, rule }) => Outcome::Refused {
+            name: file,
+            line,
+            rule,
+        },
+        Err(SyntaxFault::Memory) => Outcome::Memory,
+    }
+}
+
+// What comes of a file of this name.
+#[tactic(auto, using(crate::proofs::Saving::too_long, crate::proofs::Saving::none_there, crate::proofs::Saving::text_there, crate::proofs::Saving::counts_after))]
+fn compile_file<'a, S: Store>(alloc: Global, file: &'a str, store: &mut S) -> Outcome<'a>
+    requires { ends_as_source file.now ≡ true }
+    ensures comes { FileComesTo result file.now (S.files store.old) (S.files store.new) }
+    ensures counts { Counts result (S.read_faults store.old) (S.read_faults store.new) (S.Sink.faults store.old) (S.Sink.faults store.new) }
+{
+    match store.read(alloc, file) {
+        Ok(bytes) => finish_file(alloc, file, bytes.as_slice(), store),
+        Err(GetFault::Absent) => Outcome::Absent { name: file },
+        Err(GetFault::TooLong) => Outcome::Refused {
+            name: file,
+            line: 1,
+            rule: Rule::E108,
+        },
+        Err(GetFault::Failed) => Outcome::ReadFault,
+        Err(GetFault::Memory) => Outcome::Memory,
+    }
+}

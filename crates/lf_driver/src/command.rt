@@ -9,6 +9,7 @@ pub enum Verb {
 }
 
 /// The words of a command line, read.
+#[derive(Clone, Copy)]
 pub struct Command<'a> {
     pub verb: Verb,
     /// 0: the verb takes no number.

@@ -10,7 +10,7 @@ ghost use Rattle.lf_driver.specs.Verdict.{c_name, source_in, of_source};
 ghost use Rattle.lf_driver.specs.Ends.{ComesTo, Counts};
 ghost use Rattle.lf_driver.specs.Compile.{Saved, GivesText, TextComesTo, FileComesTo};
 
-use crate::command::{Command, words};
+use crate::command::words as read_words;
 use crate::lower::lower_program;
 use crate::outcome::Outcome;
 use crate::program::{Program, read_program};
@@ -135,5 +135,20 @@ fn compile_file<'a, S: Store>(alloc: Global, file: &'a str, store: &mut S) -> Ou
         },
         Err(GetFault::Failed) => Outcome::ReadFault,
         Err(GetFault::Memory) => Outcome::Memory,
+    }
+}
+
+/// What comes of the words. The files of the store change only where it is `Done`.
+#[tactic(auto, using(crate::proofs::Saving::comes_to, crate::proofs::Saving::command_files))]
+pub fn compile<'a, S: Store>(alloc: Global, words: &'a [String], store: &mut S) -> Outcome<'a>
+    ensures comes { ComesTo result (map string_bytes words.now) (S.files store.old) (S.files store.new) }
+    ensures counts { Counts result (S.read_faults store.old) (S.read_faults store.new) (S.Sink.faults store.old) (S.Sink.faults store.new) }
+{
+    match read_words(words) {
+        Err(_) => Outcome::Usage,
+        Ok(command) => match command.files {
+            [file, ..] => compile_file(alloc, file.as_str(), store),
+            [] => Outcome::Usage,
+        },
     }
 }

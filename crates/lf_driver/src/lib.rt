@@ -3,6 +3,7 @@
 
 mod command;
 pub mod compile;
+pub mod driver;
 pub mod lower;
 pub mod outcome;
 pub mod program;

@@ -1,5 +1,5 @@
 -- Operation by operation, the statements are those of the tree.
-use Rattle.std.proofs.Common.{◌≡◌, ℕ, ◌+◌, List, [], ◌∷◌, ◌++◌, Option, Some, None, refl, sym, ap, ◌∙◌, arith, append-nil, append_assoc, zero-add, add-zero}
+use Rattle.std.proofs.Common.{◌≡◌, ℕ, ◌+◌, List, [], ◌∷◌, ◌++◌, Option, Some, None, refl, sym, ap, ◌∙◌, arith, append-nil, append_assoc, zero-add}
 use Rattle.c_nodes.specs.declared.tree.CStmt.{CStmt}
 use Rattle.lf_driver.specs.declared.program.Operator.{Operator}
 use Rattle.lf_driver.specs.declared.program.Operator.TheVariants.{Add, Subtract, Multiply}
@@ -7,7 +7,7 @@ use Rattle.lf_driver.specs.declared.lower.Partial.{Partial}
 use Rattle.lf_driver.specs.declared.lower.Sum.{Sum}
 use Rattle.lf_driver.specs.Source.{Tree, Literal, Binary, Operation, grouped, tree_of}
 use Rattle.lf_driver.specs.Lowered.{constant, operation, count, lowered}
-use Rattle.lf_driver.specs.Emit.{added, added_count, total, sum_of, partial_of, step, step_to, step_count, emitted, emitted_count}
+use Rattle.lf_driver.specs.Emit.{added, added_count, total, sum_of, partial_of, emitted, emitted_count}
 
 -- the sum before a term, as a tree
 abbrev Before : Type 0

@@ -1,5 +1,5 @@
 -- A text that is tried, and another one behind a front of it.
-use Rattle.std.proofs.Common.{◌≡◌, ℕ, ◌+◌, ◌-◌, ◌^◌, ◌≤◌, min, List, [], ◌++◌, Option, Some, Result, Ok, Err, ◌⊎◌, inl, inr, refl, sym, ap, subst, arith, append-nil}
+use Rattle.std.proofs.Common.{ℕ, List, [], Option, Result, Ok, Err, sym, subst, arith, append-nil}
 use Rattle.lf_base.specs.declared.fault.PutFault.{PutFault}
 use Rattle.lf_base.specs.declared.fault.PutFault.TheVariants.{Failed, Memory}
 use Rattle.lf_base.specs.Causes.{Rose}

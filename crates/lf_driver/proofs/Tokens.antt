@@ -1,5 +1,5 @@
 -- Tokens that are read one by one.
-use Rattle.std.proofs.Common.{◌≡◌, ℕ, ◌+◌, ◌<◌, List, [], ◌∷◌, length, Option, Some, None, Err, refl, ap, sym, arith}
+use Rattle.std.proofs.Common.{◌≡◌, ℕ, ◌<◌, List, [], ◌∷◌, length, Option, Some, None, Err, refl, ap, sym, arith}
 use Rattle.ff_lexer.specs.declared.token.Token.{Token}
 use Rattle.ff_lexer.specs.Statements.{Spelled}
 use Rattle.lf_driver.specs.declared.program.Operator.{Operator}

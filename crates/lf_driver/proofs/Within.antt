@@ -1,5 +1,5 @@
 -- The tokens of statements lie in the text.
-use Rattle.std.proofs.Common.{◌≡◌, ℕ, ◌<◌, ◌≤◌, List, [], ◌∷◌, arith}
+use Rattle.std.proofs.Common.{ℕ, ◌≤◌, List, [], ◌∷◌, arith}
 use Rattle.ff_lexer.specs.declared.token.Token.{Token}
 use Rattle.ff_lexer.specs.declared.token.Stmt.{Stmt}
 use Rattle.ff_lexer.specs.Spans.{views, TokensLie, StatementsLie}

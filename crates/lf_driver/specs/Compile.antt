@@ -1,5 +1,5 @@
 -- What comes of one file.
-use Rattle.std.specs.Prelude.{◌≡◌, ℕ, List, [], ◌∷◌, Option, Some, None, Result, Ok, Err}
+use Rattle.std.specs.Prelude.{◌≡◌, ℕ, List, Option, Some, Result, Ok, Err}
 use Rattle.std.specs.FinMap.{get, insert}
 use Rattle.lf_base.specs.declared.fault.SyntaxFault.{SyntaxFault}
 use Rattle.lf_base.specs.declared.fault.SyntaxFault.TheVariants as syntax

@@ -1,8 +1,8 @@
 -- The same statements, operation by operation, as they are made.
-use Rattle.std.specs.Prelude.{◌≡◌, ℕ, ◌+◌, ◌-◌, List, [], ◌∷◌, ◌++◌, Option, Some, None, length}
+use Rattle.std.specs.Prelude.{ℕ, ◌+◌, List, [], ◌∷◌, ◌++◌, Option, Some, None}
 use Rattle.c_nodes.specs.declared.tree.CStmt.{CStmt}
 use Rattle.lf_driver.specs.declared.program.Operator.{Operator}
-use Rattle.lf_driver.specs.declared.program.Operator.TheVariants.{Add, Subtract, Multiply}
+use Rattle.lf_driver.specs.declared.program.Operator.TheVariants.{Multiply}
 use Rattle.lf_driver.specs.declared.lower.Partial.{Partial}
 use Rattle.lf_driver.specs.declared.lower.Sum.{Sum}
 use Rattle.lf_driver.specs.Source.{Operation}

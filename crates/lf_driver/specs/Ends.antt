@@ -1,5 +1,5 @@
 -- How a call ends: its status, what it leaves in the store, what it writes, and which counts of faults rose.
-use Rattle.std.specs.Prelude.{◌≡◌, ℕ, List, [], ◌∷◌, codes, Option, Some, None, IsSome, ◌⊎◌, Result, Ok, Err}
+use Rattle.std.specs.Prelude.{◌≡◌, ℕ, List, [], ◌∷◌, codes, Option, Some, None, IsSome, Result, Ok, Err}
 use Rattle.std.specs.Fmt.{decimal}
 use Rattle.std.specs.FinMap.{insert}
 use Rattle.lf_base.specs.declared.fault.PutFault.{PutFault}

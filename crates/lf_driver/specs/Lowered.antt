@@ -1,6 +1,6 @@
 -- The C file that a program is lowered to (ISO/IEC 9899:1999, 6.9), behind the prelude. Values are temporaries `t1`,
 -- `t2` and so on in the order of evaluation, and each operation is checked for the range of kind 4.
-use Rattle.std.specs.Prelude.{ℕ, ◌+◌, Bool, false, List, [], ◌∷◌, ◌++◌, length, codes, Option, Some, None}
+use Rattle.std.specs.Prelude.{ℕ, ◌+◌, false, List, [], ◌∷◌, ◌++◌, length, codes}
 use Rattle.std.specs.Fmt.{decimal}
 use Rattle.c_nodes.specs.declared.tree.CType.TheVariants.{Int64}
 use Rattle.c_nodes.specs.declared.tree.CResult.TheVariants.{Void, Int}

@@ -13,7 +13,7 @@ use Rattle.lf_driver.specs.declared.program.Operand.{Operand}
 use Rattle.lf_driver.specs.declared.program.Program.{Program}
 use Rattle.lf_driver.specs.declared.program.Refusal.{Refusal}
 use Rattle.lf_driver.specs.declared.program.Refusal.TheVariants.{Broken, Memory}
-use Rattle.lf_driver.specs.Source.{Operation, Chain, Source, tree_of, Judged, literal_of, operator_of, operations_of, put_first}
+use Rattle.lf_driver.specs.Source.{Operation, Source, tree_of, Judged, literal_of, operations_of, put_first}
 
 -- The token lies in a text of so many bytes.
 abbrev pub Within : ℕ → Token → Type 0

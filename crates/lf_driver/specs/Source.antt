@@ -1,11 +1,9 @@
 -- The program that statements are: a main program (ISO/IEC 1539-1:2018, 14.1) with one `print` statement (12.6.1),
 -- whose value is literals joined by operators (10.1.2).
-use Rattle.std.specs.Prelude.{◌≡◌, ℕ, ◌+◌, ◌-◌, ◌*◌, ◌≤◌, Bool, true, false, List, [], ◌∷◌, map, codes, bytes_eq, Option, Some, None, Result, Ok, Err, if◌then◌else◌, ◌&&◌, nat_le}
-use Rattle.std.specs.List.{AllByRecursion}
+use Rattle.std.specs.Prelude.{ℕ, ◌+◌, ◌-◌, ◌*◌, Bool, true, false, List, [], ◌∷◌, codes, bytes_eq, Option, Some, None, Result, Ok, Err, if◌then◌else◌, ◌&&◌, nat_le}
 use Rattle.lf_base.specs.declared.rule.Rule.{Rule}
 use Rattle.lf_base.specs.declared.rule.Rule.TheVariants.{E202}
-use Rattle.ff_lexer.specs.declared.token.Kind.{Kind}
-use Rattle.ff_lexer.specs.declared.token.Kind.TheVariants.{Word, Number, Text, Mark}
+use Rattle.ff_lexer.specs.declared.token.Kind.TheVariants.{Word, Number, Mark}
 use Rattle.ff_lexer.specs.Statements.{Spelled}
 use Rattle.lf_driver.specs.declared.program.Operator.{Operator}
 use Rattle.lf_driver.specs.declared.program.Operator.TheVariants.{Add, Subtract, Multiply}

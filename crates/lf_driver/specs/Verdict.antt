@@ -1,5 +1,5 @@
 -- What a command comes to, by its words and the files of the store alone.
-use Rattle.std.specs.Prelude.{◌≡◌, ℕ, ◌-◌, List, [], ◌∷◌, ◌++◌, length, take, codes, Option, Some, None, Result, Ok, Err}
+use Rattle.std.specs.Prelude.{ℕ, ◌-◌, List, [], ◌∷◌, ◌++◌, length, take, codes, Option, Some, None, Ok, Err}
 use Rattle.std.specs.FinMap.{get}
 use Rattle.lf_base.specs.declared.rule.Rule.{Rule}
 use Rattle.lf_base.specs.Files.{Files}

@@ -46,7 +46,11 @@ fn c_text(alloc: Global, program: &Program) -> Result<SureSink, Memory>
     }
 }
 
-fn translated_statements(alloc: Global, source: &[u8], stmts: &[Stmt]) -> Result<SureSink, SyntaxFault>
+fn translated_statements(
+    alloc: Global,
+    source: &[u8],
+    stmts: &[Stmt],
+) -> Result<SureSink, SyntaxFault>
     requires { StatementsWithin (length source.now) stmts.now }
     ensures { GivesText (λ s. s) result (program_of (spelled_statements source.now stmts.now)) }
 {
@@ -83,7 +87,12 @@ fn save<S: Store>(store: &mut S, name: &str, bytes: &[u8]) -> Result<(), PutFaul
     store.finish()
 }
 
-fn write_file<S: Store>(alloc: Global, file: &str, text: &[u8], store: &mut S) -> Result<(), PutFault>
+fn write_file<S: Store>(
+    alloc: Global,
+    file: &str,
+    text: &[u8],
+    store: &mut S,
+) -> Result<(), PutFault>
     requires { ends_as_source file.now ≡ true }
     ensures ok { OnOk result (Saved (S.files store.old) (c_name file.now) text.now (S.files store.new)) }
     ensures err { OnErr result (S.files store.new ≡ S.files store.old) }
@@ -98,7 +107,12 @@ fn write_file<S: Store>(alloc: Global, file: &str, text: &[u8], store: &mut S) -
 
 // What comes of a file whose text was read.
 #[tactic(auto, using(crate::proofs::Saving::text_done, crate::proofs::Saving::text_refused))]
-fn finish_file<'a, S: Store>(alloc: Global, file: &'a str, bytes: &[u8], store: &mut S) -> Outcome<'a>
+fn finish_file<'a, S: Store>(
+    alloc: Global,
+    file: &'a str,
+    bytes: &[u8],
+    store: &mut S,
+) -> Outcome<'a>
     requires { ends_as_source file.now ≡ true }
     ensures comes { TextComesTo result (of_source file.now (source_in bytes.now)) (S.files store.old) (S.files store.new) }
     ensures counts { Counts result (S.read_faults store.old) (S.read_faults store.new) (S.Sink.faults store.old) (S.Sink.faults store.new) }
@@ -140,7 +154,11 @@ fn compile_file<'a, S: Store>(alloc: Global, file: &'a str, store: &mut S) -> Ou
 
 /// What comes of the words. The files of the store change only where it is `Done`.
 #[tactic(auto, using(crate::proofs::Saving::comes_to, crate::proofs::Saving::command_files))]
-pub fn compile<'a, S: Store>(alloc: Global, words: &'a [String], store: &mut S) -> Outcome<'a>
+pub(crate) fn compile<'a, S: Store>(
+    alloc: Global,
+    words: &'a [String],
+    store: &mut S,
+) -> Outcome<'a>
     ensures comes { ComesTo result (map string_bytes words.now) (S.files store.old) (S.files store.new) }
     ensures counts { Counts result (S.read_faults store.old) (S.read_faults store.new) (S.Sink.faults store.old) (S.Sink.faults store.new) }
 {

@@ -2,10 +2,11 @@
 #![tactic(auto)]
 
 mod command;
-pub mod compile;
-pub mod driver;
-pub mod lower;
-pub mod outcome;
-pub mod program;
+mod compile;
+mod driver;
+mod lower;
+mod outcome;
+mod program;
 
 pub use command::{Command, Usage, Verb, words};
+pub use driver::lf_main;

@@ -17,7 +17,7 @@ use std::alloc::Global;
 
 /// The sum before a term: the operator between them, and the number of the temporary that has the sum.
 #[derive(Clone, Copy)]
-pub struct Sum {
+struct Sum {
     pub operator: Operator,
     pub value: usize,
 }
@@ -25,7 +25,7 @@ pub struct Sum {
 /// A value that is partly lowered: the sum before the last term, and the number of the temporary that has
 /// the term.
 #[derive(Clone, Copy)]
-pub struct Partial {
+struct Partial {
     pub sum: Option<Sum>,
     pub term: usize,
 }
@@ -38,7 +38,10 @@ fn temporary(alloc: Global, number: usize) -> Result<Name, Memory>
     if text.extend_from_slice(b"t").is_err() {
         return Err(Memory);
     }
-    if text.extend_from_slice(buffer.format(number).as_bytes()).is_err() {
+    if text
+        .extend_from_slice(buffer.format(number).as_bytes())
+        .is_err()
+    {
         return Err(Memory);
     }
     Name::new(alloc, text.as_slice())
@@ -112,7 +115,12 @@ fn two_values(alloc: Global, left: usize, right: usize) -> Result<Items<CExpr>, 
     one_more(items, right)
 }
 
-fn call_into(alloc: Global, number: usize, callee: &[u8], arguments: Items<CExpr>) -> Result<CStmt, Memory>
+fn call_into(
+    alloc: Global,
+    number: usize,
+    callee: &[u8],
+    arguments: Items<CExpr>,
+) -> Result<CStmt, Memory>
     ensures { IfOk result (λ s. s ≡ DeclareCall Int64 (temporary number) callee.now arguments) }
 {
     let name = temporary(alloc, number)?;
@@ -125,7 +133,13 @@ fn call_into(alloc: Global, number: usize, callee: &[u8], arguments: Items<CExpr
     })
 }
 
-fn computed(alloc: Global, operator: Operator, left: usize, right: usize, number: usize) -> Result<CStmt, Memory>
+fn computed(
+    alloc: Global,
+    operator: Operator,
+    left: usize,
+    right: usize,
+    number: usize,
+) -> Result<CStmt, Memory>
     ensures { IfOk result (λ s. s ≡ computed operator left right number) }
 {
     let arguments = two_values(alloc, left, right)?;
@@ -150,7 +164,12 @@ fn next(number: usize) -> Result<usize, Memory>
     }
 }
 
-fn emit_constant(alloc: Global, body: &mut Items<CStmt>, behind: usize, value: u64) -> Result<usize, Memory>
+fn emit_constant(
+    alloc: Global,
+    body: &mut Items<CStmt>,
+    behind: usize,
+    value: u64,
+) -> Result<usize, Memory>
     ensures body { OnOk result (body.new ≡ body.old ++ constant (behind + 1) value ∷ []) }
     ensures count { IfOk result (λ n. n ≡ behind + 1) }
 {
@@ -160,7 +179,14 @@ fn emit_constant(alloc: Global, body: &mut Items<CStmt>, behind: usize, value: u
     Ok(number)
 }
 
-fn emit_operation(alloc: Global, body: &mut Items<CStmt>, operator: Operator, left: usize, right: usize, behind: usize) -> Result<usize, Memory>
+fn emit_operation(
+    alloc: Global,
+    body: &mut Items<CStmt>,
+    operator: Operator,
+    left: usize,
+    right: usize,
+    behind: usize,
+) -> Result<usize, Memory>
     ensures body { OnOk result (body.new ≡ body.old ++ operation operator left right behind) }
     ensures count { IfOk result (λ n. n ≡ behind + 2) }
 {
@@ -175,25 +201,50 @@ fn emit_operation(alloc: Global, body: &mut Items<CStmt>, operator: Operator, le
 
 // The sum and the term behind it together: the number of the temporary that has them, which is the last
 // one unless there is no sum.
-fn emit_added(alloc: Global, body: &mut Items<CStmt>, partial: Partial, behind: usize) -> Result<(usize, usize), Memory>
+fn emit_added(
+    alloc: Global,
+    body: &mut Items<CStmt>,
+    partial: Partial,
+    behind: usize,
+) -> Result<(usize, usize), Memory>
     ensures body { OnOk result (body.new ≡ body.old ++ added partial.sum partial.term behind) }
     ensures count { IfOk result (λ r. (r.0 ≡ total partial.sum partial.term behind) × (r.1 ≡ behind + added_count partial.sum)) }
 {
     match partial.sum {
         None => Ok((partial.term, behind)),
         Some(sum) => {
-            let number = emit_operation(alloc, body, sum.operator, sum.value, partial.term, behind)?;
+            let number = emit_operation(
+                alloc,
+                body,
+                sum.operator,
+                sum.value,
+                partial.term,
+                behind,
+            )?;
             Ok((number, number))
         }
     }
 }
 
-fn emit_product(alloc: Global, body: &mut Items<CStmt>, partial: Partial, behind: usize, value: u64) -> Result<(Partial, usize), Memory>
+fn emit_product(
+    alloc: Global,
+    body: &mut Items<CStmt>,
+    partial: Partial,
+    behind: usize,
+    value: u64,
+) -> Result<(Partial, usize), Memory>
     ensures body { OnOk result (body.new ≡ body.old ++ step partial behind (Operator.Multiply, value)) }
     ensures count { IfOk result (λ r. (r.0 ≡ step_to partial behind (Operator.Multiply, value)) × (r.1 ≡ behind + 3)) }
 {
     let factor = emit_constant(alloc, body, behind, value)?;
-    let term = emit_operation(alloc, body, Operator::Multiply, partial.term, factor, factor)?;
+    let term = emit_operation(
+        alloc,
+        body,
+        Operator::Multiply,
+        partial.term,
+        factor,
+        factor,
+    )?;
     Ok((
         Partial {
             sum: partial.sum,
@@ -203,7 +254,14 @@ fn emit_product(alloc: Global, body: &mut Items<CStmt>, partial: Partial, behind
     ))
 }
 
-fn emit_sum(alloc: Global, body: &mut Items<CStmt>, partial: Partial, behind: usize, operator: Operator, value: u64) -> Result<(Partial, usize), Memory>
+fn emit_sum(
+    alloc: Global,
+    body: &mut Items<CStmt>,
+    partial: Partial,
+    behind: usize,
+    operator: Operator,
+    value: u64,
+) -> Result<(Partial, usize), Memory>
     ensures body { OnOk result (body.new ≡ body.old ++ (added partial.sum partial.term behind ++ constant (behind + added_count partial.sum + 1) value ∷ [])) }
     ensures count { IfOk result (λ r. (r.0 ≡ partial_of (Some (sum_of operator (total partial.sum partial.term behind))) (behind + added_count partial.sum + 1)) × (r.1 ≡ behind + added_count partial.sum + 1)) }
 {
@@ -222,19 +280,38 @@ fn emit_sum(alloc: Global, body: &mut Items<CStmt>, partial: Partial, behind: us
 }
 
 // One more operation.
-fn emit_step(alloc: Global, body: &mut Items<CStmt>, partial: Partial, behind: usize, operand: &Operand) -> Result<(Partial, usize), Memory>
+fn emit_step(
+    alloc: Global,
+    body: &mut Items<CStmt>,
+    partial: Partial,
+    behind: usize,
+    operand: &Operand,
+) -> Result<(Partial, usize), Memory>
     ensures body { OnOk result (body.new ≡ body.old ++ step partial behind (operation_of operand.now)) }
     ensures count { IfOk result (λ r. (r.0 ≡ step_to partial behind (operation_of operand.now)) × (r.1 ≡ behind + step_count partial (operation_of operand.now))) }
 {
     match operand.operator {
         Operator::Multiply => emit_product(alloc, body, partial, behind, operand.value),
         Operator::Add => emit_sum(alloc, body, partial, behind, Operator::Add, operand.value),
-        Operator::Subtract => emit_sum(alloc, body, partial, behind, Operator::Subtract, operand.value),
+        Operator::Subtract => emit_sum(
+            alloc,
+            body,
+            partial,
+            behind,
+            Operator::Subtract,
+            operand.value,
+        ),
     }
 }
 
 // The operations of a value, behind so many temporaries: the number of the temporary that has the value.
-fn emit_all(alloc: Global, body: &mut Items<CStmt>, partial: Partial, behind: usize, operands: &[Operand]) -> Result<usize, Memory>
+fn emit_all(
+    alloc: Global,
+    body: &mut Items<CStmt>,
+    partial: Partial,
+    behind: usize,
+    operands: &[Operand],
+) -> Result<usize, Memory>
     ensures body { OnOk result (body.new ≡ body.old ++ emitted partial behind (operations operands.now)) }
     ensures count { IfOk result (λ n. n ≡ emitted_count partial behind (operations operands.now)) }
 {
@@ -333,7 +410,12 @@ fn end_printing(alloc: Global, body: &mut Items<CStmt>, number: usize) -> Result
 
 // The statements of a value, which the last temporary has.
 #[tactic(auto, using(crate::proofs::Lowers::value_emitted, crate::proofs::Lowers::count_is))]
-fn emit_value(alloc: Global, body: &mut Items<CStmt>, first: u64, rest: &[Operand]) -> Result<usize, Memory>
+fn emit_value(
+    alloc: Global,
+    body: &mut Items<CStmt>,
+    first: u64,
+    rest: &[Operand],
+) -> Result<usize, Memory>
     ensures body { OnOk result (body.new ≡ body.old ++ lowered (tree_of (first, operations rest.now)) 0) }
     ensures count { IfOk result (λ n. n ≡ count (tree_of (first, operations rest.now))) }
 {
@@ -469,7 +551,7 @@ fn push_program(alloc: Global, items: &mut Items<CItem>, program: &Program) -> R
 }
 
 /// The C file of a program: the prelude, and behind it the program's own functions.
-pub fn lower_program(alloc: Global, program: &Program) -> Result<CFile, Memory>
+pub(crate) fn lower_program(alloc: Global, program: &Program) -> Result<CFile, Memory>
     ensures { IfOk result (λ f. f ≡ lowered_file (source_of program.now)) }
 {
     let mut file = prelude(alloc)?;

@@ -11,13 +11,19 @@ use lf_base::{PutFault, Rule, Sink};
 
 /// What a call has come to.
 #[derive(Clone, Copy)]
-pub enum Outcome<'a> {
+pub(crate) enum Outcome<'a> {
     Done,
     Usage,
     /// The store has no file of the name.
-    Absent { name: &'a str },
+    Absent {
+        name: &'a str,
+    },
     /// A file breaks a rule, first at the line.
-    Refused { name: &'a str, line: u32, rule: Rule },
+    Refused {
+        name: &'a str,
+        line: u32,
+        rule: Rule,
+    },
     ReadFault,
     WriteFault,
     Memory,
@@ -91,7 +97,13 @@ fn put_text<O: Sink>(before: Ended, out: &mut O, outcome: Outcome) -> Ended
         Outcome::Done => put_nothing(before, out),
         Outcome::Usage => put(before, out, b"lf: usage: COMMAND [--turns=N] FILE ...\n"),
         Outcome::Absent { name } => put_absent(before, out, name.as_bytes()),
-        Outcome::Refused { name, line, rule } => put_refused(before, out, name.as_bytes(), line, rule),
+        Outcome::Refused { name, line, rule } => put_refused(
+            before,
+            out,
+            name.as_bytes(),
+            line,
+            rule,
+        ),
         Outcome::ReadFault => put(before, out, b"lf: read fault\n"),
         Outcome::WriteFault => put(before, out, b"lf: write fault\n"),
         Outcome::Memory => put(before, out, b"lf: out of memory\n"),
@@ -119,7 +131,7 @@ fn tell<E: Sink>(err: &mut E, outcome: Outcome) -> Result<(), PutFault>
 /// Tells on the sink what a call has come to, and answers what it comes to by that. The text of a fault is
 /// tried once.
 #[tactic(auto, using(crate::proofs::Tellings::tellings))]
-pub fn report<'a, E: Sink>(err: &mut E, outcome: Outcome<'a>) -> Outcome<'a>
+pub(crate) fn report<'a, E: Sink>(err: &mut E, outcome: Outcome<'a>) -> Outcome<'a>
     ensures { Reports outcome.entry result (E.contents err.old) (E.contents err.new) (E.faults err.old) (E.faults err.new) }
 {
     match outcome {
@@ -148,7 +160,7 @@ pub fn report<'a, E: Sink>(err: &mut E, outcome: Outcome<'a>) -> Outcome<'a>
 
 impl Outcome<'_> {
     /// The status of the program.
-    pub fn status(&self) -> u8
+    pub(crate) fn status(&self) -> u8
         ensures { result ≡ status_of self.now }
     {
         match self {

@@ -10,7 +10,7 @@ use std::alloc::Global;
 
 /// An operator of the expression that is printed (ISO/IEC 1539-1:2018, 10.1.5.2.1).
 #[derive(Clone, Copy)]
-pub enum Operator {
+pub(crate) enum Operator {
     Add,
     Subtract,
     Multiply,
@@ -18,21 +18,21 @@ pub enum Operator {
 
 /// An operator and the literal behind it.
 #[derive(Clone, Copy)]
-pub struct Operand {
+pub(crate) struct Operand {
     pub operator: Operator,
     pub value: u64,
 }
 
 /// A main program that prints one expression: a first literal, and the operands behind it in order.
 #[derive(Drop)]
-pub struct Program<'a> {
+pub(crate) struct Program<'a> {
     pub name: &'a [u8],
     pub first: u64,
     pub rest: Vec<Operand>,
 }
 
 /// Why tokens are not in a form.
-pub enum Refusal {
+pub(crate) enum Refusal {
     Broken,
     Memory,
 }
@@ -77,7 +77,11 @@ fn value(digits: &[u8]) -> Option<u64>
         }
         value = value * 10 + u64::from(digit.saturating_sub(b'0'));
     }
-    if value > GREATEST_LITERAL { None } else { Some(value) }
+    if value > GREATEST_LITERAL {
+        None
+    } else {
+        Some(value)
+    }
 }
 
 fn literal(source: &[u8], token: &Token) -> Option<u64>
@@ -107,7 +111,12 @@ fn read_operator(source: &[u8], token: &Token) -> Option<Operator>
 
 // One more token, behind an operator or not: the operator that waits for its literal.
 #[tactic(auto, using(crate::proofs::Tokens::operations_first))]
-fn step(source: &[u8], token: &Token, pending: Option<Operator>, operands: &mut Vec<Operand>) -> Result<Option<Operator>, Refusal>
+fn step(
+    source: &[u8],
+    token: &Token,
+    pending: Option<Operator>,
+    operands: &mut Vec<Operand>,
+) -> Result<Option<Operator>, Refusal>
     requires { Within (length source.now) token.now }
     ensures { (rest : List Spelled) → GivesBoth (λ next. ahead (operations operands.new.items) (operations_behind next rest)) result (ahead (operations operands.old.items) (operations_behind pending (spelled source.now token.now ∷ rest))) }
 {
@@ -169,7 +178,10 @@ fn printed(alloc: Global, source: &[u8], tokens: &[Token]) -> Result<(u64, Vec<O
 {
     match tokens {
         [print, star, comma, rest @ ..] => {
-            if is_word(source, print, b"print") && is_mark(source, star, b"*") && is_mark(source, comma, b",") {
+            if is_word(source, print, b"print")
+                && is_mark(source, star, b"*")
+                && is_mark(source, comma, b",")
+            {
                 chain(alloc, source, rest)
             } else {
                 Err(Refusal::Broken)
@@ -240,7 +252,13 @@ fn refused(line: u32) -> SyntaxFault
 }
 
 // The third statement, where the second one stands on this line.
-fn ended_by<'a>(source: &'a [u8], line: u32, name: &'a [u8], value: (u64, Vec<Operand>), stmts: &[Stmt]) -> Result<Program<'a>, SyntaxFault>
+fn ended_by<'a>(
+    source: &'a [u8],
+    line: u32,
+    name: &'a [u8],
+    value: (u64, Vec<Operand>),
+    stmts: &[Stmt],
+) -> Result<Program<'a>, SyntaxFault>
     requires { StatementsWithin (length source.now) stmts.now }
     ensures { GivesProgram result (ended_by line name.now (value.0, operations value.1.items) (spelled_statements source.now stmts.now)) }
 {
@@ -263,7 +281,13 @@ fn ended_by<'a>(source: &'a [u8], line: u32, name: &'a [u8], value: (u64, Vec<Op
 }
 
 // The second statement, where the first one stands on this line.
-fn printing<'a>(alloc: Global, source: &'a [u8], line: u32, name: &'a [u8], stmts: &[Stmt]) -> Result<Program<'a>, SyntaxFault>
+fn printing<'a>(
+    alloc: Global,
+    source: &'a [u8],
+    line: u32,
+    name: &'a [u8],
+    stmts: &[Stmt],
+) -> Result<Program<'a>, SyntaxFault>
     requires { StatementsWithin (length source.now) stmts.now }
     ensures { GivesProgram result (printing line name.now (spelled_statements source.now stmts.now)) }
 {
@@ -279,7 +303,11 @@ fn printing<'a>(alloc: Global, source: &'a [u8], line: u32, name: &'a [u8], stmt
 
 /// The program of the statements. A statement that is not in its form, or is a fourth one, is refused with
 /// E202 at its line; where one is missing, at the line of the last one, or at line 1 where there is none.
-pub fn read_program<'a>(alloc: Global, source: &'a [u8], stmts: &[Stmt]) -> Result<Program<'a>, SyntaxFault>
+pub(crate) fn read_program<'a>(
+    alloc: Global,
+    source: &'a [u8],
+    stmts: &[Stmt],
+) -> Result<Program<'a>, SyntaxFault>
     requires { StatementsWithin (length source.now) stmts.now }
     ensures { GivesProgram result (program_of (spelled_statements source.now stmts.now)) }
 {

@@ -1,6 +1,6 @@
 use Rattle.std.proofs.Common.{ap, ◌∙◌}
 use Rattle.c_nodes.specs.Text.{file_text}
-use Rattle.lf_driver.proofs.Saving.{filled, comes_to, command_files, text_there, too_long, none_there}
+use Rattle.lf_driver.proofs.Saving.{filled}
 use Rattle.lf_driver.proofs.compile.c_text.Goals as goal
 
 pub returns-in-Ok : goal.returns-in-Ok

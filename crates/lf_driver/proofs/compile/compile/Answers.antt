@@ -1,4 +1,4 @@
-use Rattle.std.proofs.Common.{Some, sym, ap, subst, ◌∙◌, map, string_bytes}
+use Rattle.std.proofs.Common.{Some, ap, subst, ◌∙◌, map, string_bytes}
 use Rattle.lf_driver.specs.Compile.{FileComesTo}
 use Rattle.lf_driver.proofs.Names.{first_text}
 use Rattle.lf_driver.proofs.Saving.{comes_to, command_files}

@@ -1,4 +1,4 @@
-use Rattle.std.proofs.Common.{ℕ, ◌≡◌, length, drop}
+use Rattle.std.proofs.Common.{◌≡◌, length, drop}
 use Rattle.lf_driver.specs.Source.{operations_of}
 use Rattle.lf_driver.specs.Parse.{AllWithin, spelled_all, operations, operations_behind, ahead}
 use Rattle.lf_driver.proofs.program.operands.Given as goal

@@ -1,6 +1,4 @@
-use Rattle.std.proofs.Common.{refl, sym, ap, ◌∙◌, Some, None, drop}
-use Rattle.std.specs.Prelude.{if◌then◌else◌, nat_le}
-use Rattle.lf_driver.specs.Source.{greatest_literal, value_behind}
+use Rattle.std.proofs.Common.{refl, drop}
 use Rattle.lf_driver.proofs.Values.{too_great}
 use Rattle.lf_driver.proofs.program.value.Goals as goal
 

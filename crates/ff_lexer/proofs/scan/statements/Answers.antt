@@ -1,0 +1,10 @@
+use Rattle.ff_lexer.specs.Spans.{views}
+use Rattle.ff_lexer.proofs.Lines.{answers_spelled}
+use Rattle.ff_lexer.proofs.Places.{answers_lie}
+use Rattle.ff_lexer.proofs.scan.statements.Goals as goal
+
+pub returns-clause-spelled : goal.returns-clause-spelled
+returns-clause-spelled c = answers_spelled c.args.source.now (λ v. views v.items) c.scan_all.result c.if-source-gt-GREATEST_SOURCE.false c.scan_all.ensures
+
+pub returns-clause-places : goal.returns-clause-places
+returns-clause-places c = answers_lie c.args.source.now (λ v. views v.items) c.scan_all.result c.scan_all.ensures

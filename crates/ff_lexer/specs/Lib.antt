@@ -1,0 +1,3 @@
+pub mod Scan
+pub mod Spans
+pub mod Statements

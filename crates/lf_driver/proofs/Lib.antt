@@ -1,0 +1,7 @@
+pub mod Lowers
+pub mod Names
+pub mod Saving
+pub mod Tellings
+pub mod Tokens
+pub mod Values
+pub mod Within

@@ -1,0 +1,98 @@
+-- How a call ends: its status, what it leaves in the store, what it writes, and which counts of faults rose.
+use Rattle.std.specs.Prelude.{◌≡◌, ℕ, List, [], ◌∷◌, codes, Option, Some, None, IsSome, Result, Ok, Err}
+use Rattle.std.specs.Fmt.{decimal}
+use Rattle.std.specs.FinMap.{insert}
+use Rattle.lf_base.specs.declared.fault.PutFault.{PutFault}
+use Rattle.lf_base.specs.declared.fault.PutFault.TheVariants as put
+use Rattle.lf_base.specs.Causes.{Rose}
+use Rattle.lf_base.specs.Contents.{Appends, AppendsPart, joined}
+use Rattle.lf_base.specs.Files.{Files}
+use Rattle.lf_base.specs.Rules.{number_of}
+use Rattle.lf_driver.specs.declared.outcome.Outcome.{Outcome}
+use Rattle.lf_driver.specs.declared.outcome.Outcome.TheVariants.{Done, Usage, Absent, Refused, ReadFault, WriteFault, Memory}
+use Rattle.lf_driver.specs.Words.{words_of}
+use Rattle.lf_driver.specs.Verdict.{verdict}
+use Rattle.lf_driver.specs.Verdict as judged
+
+abbrev pub status_of : Outcome → ℕ
+status_of Done = 0
+status_of (Refused name line rule) = 1
+status_of Usage = 2
+status_of (Absent name) = 2
+status_of ReadFault = 3
+status_of WriteFault = 4
+status_of Memory = 5
+
+-- the text that tells it
+abbrev pub text_of : Outcome → List ℕ
+text_of Done = joined []
+text_of Usage = codes "lf: usage: COMMAND [--turns=N] FILE ...\n"
+text_of (Absent name) = joined (codes "lf: no such file: " ∷ name.now ∷ codes "\n" ∷ [])
+text_of (Refused name line rule) = joined (name.now ∷ codes ":" ∷ decimal line ∷ codes ": E" ∷ joined (decimal (number_of rule) ∷ codes "\n" ∷ []) ∷ [])
+text_of ReadFault = codes "lf: read fault\n"
+text_of WriteFault = codes "lf: write fault\n"
+text_of Memory = codes "lf: out of memory\n"
+
+-- a fact of the files, where the store tells them
+abbrev pub Told : Option Files → (Files → Type 0) → Type 0
+Told None fact = Unit {0}
+Told (Some files) fact = fact files
+
+-- The C file of the words is among the files, and nothing else has changed.
+abbrev pub Written : List (List ℕ) → Option Files → Files → Type 0
+Written words new files = (name : List ℕ) × (bytes : List ℕ) × (verdict words files ≡ judged.Done name bytes) × (new ≡ Some (insert files name bytes))
+
+-- what has come of the words: by the verdict, or by a fault, which leaves the files as they were
+abbrev pub ComesTo : Outcome → List (List ℕ) → Option Files → Option Files → Type 0
+ComesTo Done words old new = IsSome (words_of words) × Told old (Written words new)
+ComesTo Usage words old new = (words_of words ≡ None) × (new ≡ old)
+ComesTo (Absent name) words old new = IsSome (words_of words) × (new ≡ old) × Told old (λ files. verdict words files ≡ judged.Absent name.now)
+ComesTo (Refused name line rule) words old new = IsSome (words_of words) × (new ≡ old) × Told old (λ files. verdict words files ≡ judged.Refused name.now line rule)
+ComesTo ReadFault words old new = new ≡ old
+ComesTo WriteFault words old new = new ≡ old
+ComesTo Memory words old new = new ≡ old
+
+-- The count of failed reads and the count of failed writes of the store: each rose exactly where that is what came.
+abbrev pub Counts : Outcome → ℕ → ℕ → ℕ → ℕ → Type 0
+Counts Done reads reads' writes writes' = (reads' ≡ reads) × (writes' ≡ writes)
+Counts Usage reads reads' writes writes' = (reads' ≡ reads) × (writes' ≡ writes)
+Counts (Absent name) reads reads' writes writes' = (reads' ≡ reads) × (writes' ≡ writes)
+Counts (Refused name line rule) reads reads' writes writes' = (reads' ≡ reads) × (writes' ≡ writes)
+Counts ReadFault reads reads' writes writes' = Rose reads reads' × (writes' ≡ writes)
+Counts WriteFault reads reads' writes writes' = (reads' ≡ reads) × Rose writes writes'
+Counts Memory reads reads' writes writes' = (reads' ≡ reads) × (writes' ≡ writes)
+
+-- fronts of two texts, one behind the other
+abbrev pub GainsBoth : Option (List ℕ) → Option (List ℕ) → List ℕ → List ℕ → Type 0
+GainsBoth old new first second = (between : Option (List ℕ)) × AppendsPart old between first × AppendsPart between new second
+
+-- A text is told whole, or it can't be, and a second text is tried.
+abbrev pub Tells : Outcome → Outcome → Option (List ℕ) → Option (List ℕ) → ℕ → ℕ → Type 0
+Tells came WriteFault old new faults faults' = Rose faults faults' × GainsBoth old new (text_of came) (text_of WriteFault)
+Tells came Memory old new faults faults' = GainsBoth old new (text_of came) (text_of Memory)
+Tells came told old new faults faults' = (told ≡ came) × Appends old new (text_of came) × (faults' ≡ faults)
+
+-- the text of a fault is tried once, whatever comes of it
+abbrev pub Tries : Outcome → Outcome → Option (List ℕ) → Option (List ℕ) → Type 0
+Tries came told old new = (told ≡ came) × AppendsPart old new (text_of came)
+
+-- how what has come is told on the last sink, and what is answered for it
+abbrev pub Reports : Outcome → Outcome → Option (List ℕ) → Option (List ℕ) → ℕ → ℕ → Type 0
+Reports Done told old new faults faults' = (told ≡ Done) × (new ≡ old) × (faults' ≡ faults)
+Reports Usage told old new faults faults' = Tells Usage told old new faults faults'
+Reports (Absent name) told old new faults faults' = Tells (Absent name) told old new faults faults'
+Reports (Refused name line rule) told old new faults faults' = Tells (Refused name line rule) told old new faults faults'
+Reports ReadFault told old new faults faults' = Tries ReadFault told old new
+Reports WriteFault told old new faults faults' = Tries WriteFault told old new
+Reports Memory told old new faults faults' = Tries Memory told old new
+
+-- the same, as it is answered: what is told in place of what came, where that can't be told
+abbrev pub TellsOr : Outcome → Result (Unit {0}) PutFault → Option (List ℕ) → Option (List ℕ) → ℕ → ℕ → Type 0
+TellsOr came (Ok _) old new faults faults' = Appends old new (text_of came) × (faults' ≡ faults)
+TellsOr came (Err put.Failed) old new faults faults' = Rose faults faults' × GainsBoth old new (text_of came) (text_of WriteFault)
+TellsOr came (Err put.Memory) old new faults faults' = GainsBoth old new (text_of came) (text_of Memory)
+
+-- How a call ends: something has come of the words, and it is told on the last sink. What is told decides the status.
+abbrev pub EndsBy : ℕ → List (List ℕ) → Option Files → Option Files → ℕ → ℕ → ℕ → ℕ → Option (List ℕ) → Option (List ℕ) → ℕ → ℕ → Type 0
+EndsBy status words old new reads reads' writes writes' held held' faults faults' =
+    (came : Outcome) × (told : Outcome) × (status ≡ status_of told) × ComesTo came words old new × Counts came reads reads' writes writes' × Reports came told held held' faults faults'

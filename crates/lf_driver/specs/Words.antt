@@ -1,0 +1,34 @@
+-- The command that a list of words is: a verb, a number and the files.
+use Rattle.std.specs.Prelude.{◌≡◌, ℕ, ◌-◌, Bool, false, List, [], ◌∷◌, length, drop, map, codes, bytes_eq, string_bytes, Option, Some, None, Result, Ok, Err, if◌then◌else◌, ◌==◌, ◌&&◌, not, nat_le}
+use Rattle.lf_driver.specs.declared.command.Verb.{Verb}
+use Rattle.lf_driver.specs.declared.command.Verb.TheVariants.{Compile}
+use Rattle.lf_driver.specs.declared.command.Command.{Command}
+use Rattle.lf_driver.specs.declared.command.Usage.{Usage}
+
+abbrev pub begins_with_hyphen : List ℕ → Bool
+begins_with_hyphen [] = false
+begins_with_hyphen (byte ∷ bytes) = byte == 45
+
+abbrev pub ends_as_source : List ℕ → Bool
+ends_as_source word = bytes_eq (drop (length word - 4) word) (codes ".f90")
+
+-- the name of a source: it ends in `.f90`, does not begin with `-` and has 4 to 255 bytes
+abbrev pub is_source_name : List ℕ → Bool
+is_source_name word = nat_le 4 (length word) && nat_le (length word) 255 && not (begins_with_hyphen word) && ends_as_source word
+
+abbrev pub CommandText : Type 0
+CommandText = Verb × ℕ × List (List ℕ)
+
+-- `compile` with one source; every other list of words is no command
+abbrev pub words_of : List (List ℕ) → Option CommandText
+words_of (verb ∷ file ∷ []) = if bytes_eq verb (codes "compile") && is_source_name file then Some (Compile, 0, file ∷ []) else None
+words_of words = None
+
+-- a command as its texts
+abbrev pub text_of : Command → CommandText
+text_of command = (command.verb, command.number, map string_bytes command.files.now)
+
+-- What was answered is what the words are.
+abbrev pub WordsGive : Result Command Usage → List (List ℕ) → Type 0
+WordsGive (Ok command) words = words_of words ≡ Some (text_of command)
+WordsGive (Err usage) words = words_of words ≡ None

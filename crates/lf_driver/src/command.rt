@@ -1,0 +1,61 @@
+ghost use Rattle.std.specs.Prelude.{◌≡◌, map, string_bytes};
+ghost use Rattle.lf_driver.specs.Words.{begins_with_hyphen, is_source_name, WordsGive};
+
+/// What the program is asked to do.
+#[derive(Clone, Copy, Debug, PartialEq, Eq)]
+pub enum Verb {
+    /// Compiles each file into the store.
+    Compile,
+}
+
+/// The words of a command line, read.
+#[derive(Clone, Copy)]
+pub struct Command<'a> {
+    pub verb: Verb,
+    /// 0: the verb takes no number.
+    pub number: u64,
+    pub files: &'a [String],
+}
+
+/// The words are no command.
+#[derive(Clone, Copy, Debug, PartialEq, Eq)]
+pub struct Usage;
+
+fn begins_with_hyphen(word: &[u8]) -> bool
+    ensures { result ≡ begins_with_hyphen word.now }
+{
+    match word {
+        [first, ..] => *first == b'-',
+        [] => false,
+    }
+}
+
+fn is_source_name(word: &[u8]) -> bool
+    ensures { result ≡ is_source_name word.now }
+{
+    4 <= word.len() && word.len() <= 255 && !begins_with_hyphen(word) && word.ends_with(b".f90")
+}
+
+/// The command that the words are: `compile` with one file. The name of a file ends in `.f90`, does not
+/// begin with `-` and has 4 to 255 bytes. All other words are refused.
+pub fn words(words: &[String]) -> Result<Command, Usage>
+    ensures { WordsGive result (map string_bytes words.now) }
+{
+    match words {
+        [verb, files @ ..] => match files {
+            [file] => {
+                if verb.as_str() == "compile" && is_source_name(file.as_bytes()) {
+                    Ok(Command {
+                        verb: Verb::Compile,
+                        number: 0,
+                        files,
+                    })
+                } else {
+                    Err(Usage)
+                }
+            }
+            _ => Err(Usage),
+        },
+        [] => Err(Usage),
+    }
+}

@@ -1,0 +1,175 @@
+ghost use Rattle.std.specs.Prelude.{◌≡◌, Ok, OnOk, OnErr, [], ◌∷◌, codes};
+ghost use Rattle.std.specs.Fmt.{decimal};
+ghost use Rattle.lf_base.specs.Contents.{Appends, AppendsPart, joined};
+ghost use Rattle.lf_base.specs.Causes.{HasCause};
+ghost use Rattle.lf_base.specs.Puts.{Puts, Causes};
+ghost use Rattle.lf_base.specs.Rules.{number_of};
+ghost use Rattle.lf_driver.specs.Ends.{status_of, text_of, TellsOr, Reports};
+
+use itoa::Buffer;
+use lf_base::{PutFault, Rule, Sink};
+
+/// What a call has come to.
+#[derive(Clone, Copy)]
+pub(crate) enum Outcome<'a> {
+    Done,
+    Usage,
+    /// The store has no file of the name.
+    Absent {
+        name: &'a str,
+    },
+    /// A file breaks a rule, first at the line.
+    Refused {
+        name: &'a str,
+        line: u32,
+        rule: Rule,
+    },
+    ReadFault,
+    WriteFault,
+    Memory,
+}
+
+// How the puts so far ended. After a failure nothing more is put.
+type Ended = Result<(), PutFault>;
+
+fn put<O: Sink>(before: Ended, out: &mut O, piece: &[u8]) -> Ended
+    ensures text { Puts before result (O.contents out.old) (O.contents out.new) piece.now }
+    ensures cause { Causes before result (O.faults out.old) (O.faults out.new) }
+{
+    match before {
+        Ok(()) => out.put(piece),
+        Err(fault) => Err(fault),
+    }
+}
+
+fn put_number<O: Sink>(before: Ended, out: &mut O, number: u32) -> Ended
+    ensures text { Puts before result (O.contents out.old) (O.contents out.new) (decimal number) }
+    ensures cause { Causes before result (O.faults out.old) (O.faults out.new) }
+{
+    let mut buffer = Buffer::new();
+    put(before, out, buffer.format(number).as_bytes())
+}
+
+#[tactic(auto, using(lf_base::proofs::Chains::chains))]
+fn put_absent<O: Sink>(before: Ended, out: &mut O, name: &[u8]) -> Ended
+    ensures text { Puts before result (O.contents out.old) (O.contents out.new) (joined (codes "lf: no such file: " ∷ name.now ∷ codes "\n" ∷ [])) }
+    ensures cause { Causes before result (O.faults out.old) (O.faults out.new) }
+{
+    let ended = put(before, out, b"lf: no such file: ");
+    let ended = put(ended, out, name);
+    put(ended, out, b"\n")
+}
+
+#[tactic(auto, using(lf_base::proofs::Chains::chains))]
+fn put_rule<O: Sink>(before: Ended, out: &mut O, rule: Rule) -> Ended
+    ensures text { Puts before result (O.contents out.old) (O.contents out.new) (joined (decimal (number_of rule) ∷ codes "\n" ∷ [])) }
+    ensures cause { Causes before result (O.faults out.old) (O.faults out.new) }
+{
+    let ended = put_number(before, out, u32::from(rule.number()));
+    put(ended, out, b"\n")
+}
+
+#[tactic(auto, using(lf_base::proofs::Chains::chains))]
+fn put_refused<O: Sink>(before: Ended, out: &mut O, name: &[u8], line: u32, rule: Rule) -> Ended
+    ensures text { Puts before result (O.contents out.old) (O.contents out.new) (joined (name.now ∷ codes ":" ∷ decimal line ∷ codes ": E" ∷ joined (decimal (number_of rule) ∷ codes "\n" ∷ []) ∷ [])) }
+    ensures cause { Causes before result (O.faults out.old) (O.faults out.new) }
+{
+    let ended = put(before, out, name);
+    let ended = put(ended, out, b":");
+    let ended = put_number(ended, out, line);
+    let ended = put(ended, out, b": E");
+    put_rule(ended, out, rule)
+}
+
+#[tactic(auto, using(lf_base::proofs::Chains::chains, lf_base::proofs::Chains::causes_none))]
+fn put_nothing<O: Sink>(before: Ended, out: &mut O) -> Ended
+    ensures text { Puts before result (O.contents out.old) (O.contents out.new) (joined []) }
+    ensures cause { Causes before result (O.faults out.old) (O.faults out.new) }
+{
+    before
+}
+
+fn put_text<O: Sink>(before: Ended, out: &mut O, outcome: Outcome) -> Ended
+    ensures text { Puts before result (O.contents out.old) (O.contents out.new) (text_of outcome.entry) }
+    ensures cause { Causes before result (O.faults out.old) (O.faults out.new) }
+{
+    match outcome {
+        Outcome::Done => put_nothing(before, out),
+        Outcome::Usage => put(before, out, b"lf: usage: COMMAND [--turns=N] FILE ...\n"),
+        Outcome::Absent { name } => put_absent(before, out, name.as_bytes()),
+        Outcome::Refused { name, line, rule } => put_refused(
+            before,
+            out,
+            name.as_bytes(),
+            line,
+            rule,
+        ),
+        Outcome::ReadFault => put(before, out, b"lf: read fault\n"),
+        Outcome::WriteFault => put(before, out, b"lf: write fault\n"),
+        Outcome::Memory => put(before, out, b"lf: out of memory\n"),
+    }
+}
+
+// Tells what came. Where that can't be written, the fault that this is is told in its place.
+#[tactic(auto, using(crate::proofs::Tellings::tellings))]
+fn tell<E: Sink>(err: &mut E, outcome: Outcome) -> Result<(), PutFault>
+    ensures { TellsOr outcome.entry result (E.contents err.old) (E.contents err.new) (E.faults err.old) (E.faults err.new) }
+{
+    match put_text(Ok(()), err, outcome) {
+        Ok(()) => Ok(()),
+        Err(PutFault::Failed) => {
+            let _ = put_text(Ok(()), err, Outcome::WriteFault);
+            Err(PutFault::Failed)
+        }
+        Err(PutFault::Memory) => {
+            let _ = put_text(Ok(()), err, Outcome::Memory);
+            Err(PutFault::Memory)
+        }
+    }
+}
+
+/// Tells on the sink what a call has come to, and answers what it comes to by that. The text of a fault is
+/// tried once.
+#[tactic(auto, using(crate::proofs::Tellings::tellings))]
+pub(crate) fn report<'a, E: Sink>(err: &mut E, outcome: Outcome<'a>) -> Outcome<'a>
+    ensures { Reports outcome.entry result (E.contents err.old) (E.contents err.new) (E.faults err.old) (E.faults err.new) }
+{
+    match outcome {
+        Outcome::Done => Outcome::Done,
+        Outcome::Usage => match tell(err, outcome) {
+            Ok(()) => Outcome::Usage,
+            Err(PutFault::Failed) => Outcome::WriteFault,
+            Err(PutFault::Memory) => Outcome::Memory,
+        },
+        Outcome::Absent { name } => match tell(err, outcome) {
+            Ok(()) => Outcome::Absent { name },
+            Err(PutFault::Failed) => Outcome::WriteFault,
+            Err(PutFault::Memory) => Outcome::Memory,
+        },
+        Outcome::Refused { name, line, rule } => match tell(err, outcome) {
+            Ok(()) => Outcome::Refused { name, line, rule },
+            Err(PutFault::Failed) => Outcome::WriteFault,
+            Err(PutFault::Memory) => Outcome::Memory,
+        },
+        Outcome::ReadFault | Outcome::WriteFault | Outcome::Memory => {
+            let _ = put_text(Ok(()), err, outcome);
+            outcome
+        }
+    }
+}
+
+impl Outcome<'_> {
+    /// The status of the program.
+    pub(crate) fn status(&self) -> u8
+        ensures { result ≡ status_of self.now }
+    {
+        match self {
+            Outcome::Done => 0,
+            Outcome::Refused { .. } => 1,
+            Outcome::Usage | Outcome::Absent { .. } => 2,
+            Outcome::ReadFault => 3,
+            Outcome::WriteFault => 4,
+            Outcome::Memory => 5,
+        }
+    }
+}

@@ -1,0 +1,5 @@
+pub mod ChangeLemmas
+pub mod EntryLemmas
+pub mod LinkLemmas
+pub mod NameLemmas
+pub mod Seen

@@ -1,0 +1,10 @@
+-- The names of a table in a list of tables by number.
+use Rattle.std.specs.Prelude.{ℕ, List, [], Option}
+use Rattle.std.specs.Option.{option_map_or}
+use Rattle.lf_base.specs.declared.id.SymId.{SymId}
+use Rattle.symtab_arena.specs.Entries.{entry_at}
+use Rattle.symtab_arena.specs.declared.table.Table.{Table}
+
+-- the names of the table with this number, with their symbols, in declaration order
+abbrev pub names_at : List (Option Table) → ℕ → List (List ℕ × SymId)
+names_at tables n = option_map_or (λ x. x.names) (entry_at tables n) []

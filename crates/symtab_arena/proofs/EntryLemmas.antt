@@ -1,6 +1,8 @@
 -- What stands at a number after a write, a push and a map.
 use Rattle.std.proofs.Common.{◌≡◌, ◌≢◌, ℕ, zero, suc, ◌+◌, ◌<◌, ◌≤◌, Bool, true, false, List, [], ◌∷◌, ◌++◌, length, map, slice_get, slice_set, get_or, Option, Some, None, is_some, refl, sym, ap, subst, ◌∙◌, ◌⊎◌, inl, inr, arith, true≢false}
 use Rattle.std.proofs.lemmas.Bool.Decides.{eqb_tells}
+use Rattle.std.proofs.lemmas.List.Sums.{sum_by-append}
+use Rattle.std.specs.List.{count_by}
 use Rattle.std.specs.Option.{option_flatten}
 use Rattle.symtab_arena.specs.Entries.{entry_at}
 
@@ -67,3 +69,45 @@ module _ {X : Type 0} where
   same_entries [] (y ∷ ys) l h = absurd (omega arith)
   same_entries (x ∷ xs) [] l h = absurd (omega arith)
   same_entries (x ∷ xs) (y ∷ ys) l h = λ i. h zero i ∷ same_entries xs ys (omega arith) (λ n. h (suc n)) i
+
+  pub entry_at-set_none : (xs : List (Option X)) (n : ℕ) → entry_at (slice_set xs n None) n ≡ None
+  entry_at-set_none [] n = refl
+  entry_at-set_none (y ∷ xs) zero = refl
+  entry_at-set_none (y ∷ xs) (suc n) = entry_at-set_none xs n
+
+  -- taking out what is not there changes nothing
+  pub set_none-nothing : (xs : List (Option X)) (n : ℕ) → entry_at xs n ≡ None → slice_set xs n None ≡ xs
+  set_none-nothing [] n e = refl
+  set_none-nothing (y ∷ xs) zero e = ap (λ z. z ∷ xs) (sym e)
+  set_none-nothing (y ∷ xs) (suc n) e = ap (λ zs. y ∷ zs) (set_none-nothing xs n e)
+
+  count_first : (o : Option X) (xs : List (Option X)) → count_by is_some (o ∷ xs) ≡ count_by is_some (o ∷ []) + count_by is_some xs
+  count_first o xs = sum_by-append _ (o ∷ []) xs
+
+  -- taking one out leaves one fewer
+  pub count-set_none : (xs : List (Option X)) (n : ℕ) (x : X) → entry_at xs n ≡ Some x → count_by is_some (slice_set xs n None) + 1 ≡ count_by is_some xs
+  count-set_none [] n x e = absurd (none_some x e)
+  count-set_none (y ∷ xs) zero x e =
+      let was = count_first (Some x) xs in
+      let now = count_first None xs in
+      let same = ap (λ o. count_by is_some (o ∷ xs)) e in
+      omega arith
+  count-set_none (y ∷ xs) (suc n) x e =
+      let was = count_first y xs in
+      let now = count_first y (slice_set xs n None) in
+      let rest = count-set_none xs n x e in
+      omega arith
+
+  -- a change of what stands there leaves as many
+  pub count-set_some : (xs : List (Option X)) (n : ℕ) (x y : X) → entry_at xs n ≡ Some x → count_by is_some (slice_set xs n (Some y)) ≡ count_by is_some xs
+  count-set_some [] n x y e = absurd (none_some x e)
+  count-set_some (z ∷ xs) zero x y e =
+      let was = count_first (Some x) xs in
+      let now = count_first (Some y) xs in
+      let same = ap (λ o. count_by is_some (o ∷ xs)) e in
+      omega arith
+  count-set_some (z ∷ xs) (suc n) x y e =
+      let was = count_first z xs in
+      let now = count_first z (slice_set xs n (Some y)) in
+      let rest = count-set_some xs n x y e in
+      omega arith

@@ -25,7 +25,7 @@ same_place_or t u n m =
       | inr d ↦ inr (λ q _. d q)
     ]
 
-some_is : {X : Type 0} (x y : X) → Some x ≡ Some y → x ≡ y
+pub some_is : {X : Type 0} (x y : X) → Some x ≡ Some y → x ≡ y
 some_is x y e = cc
 
 abbrev pub root_tables : List (Option Table)

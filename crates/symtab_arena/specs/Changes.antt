@@ -6,7 +6,7 @@ use Rattle.lf_base.specs.declared.id.SymId.{SymId}
 use Rattle.lf_base.specs.declared.id.TableId.{TableId}
 use Rattle.symtab_arena.specs.Entries.{entry_at}
 use Rattle.symtab_arena.specs.Names.{without}
-use Rattle.symtab_arena.specs.Scopes.{Scopes, symbol_at, next_symbol, next_table}
+use Rattle.symtab_arena.specs.Scopes.{Scopes, symbol_at, next_symbol, next_table, table_of, owned_by}
 use Rattle.symtab_arena.specs.declared.table.Table.{Table}
 use Rattle.symtab_arena.specs.declared.table.Symbol.{Symbol}
 
@@ -19,11 +19,11 @@ abbrev pub outside : {K : Type 0} → TableId → Option (Symbol K) → Option (
 outside t None = None
 outside t (Some y) = if y.table.0 == t.0 then None else Some y
 
-module _ {K : Type 0} (a : Scopes K) where
-  -- with other things at the number of a symbol
-  abbrev pub with_symbol : SymId → (Symbol K → Symbol K) → Scopes K
-  with_symbol s change = record a { symbols = slice_set a.symbols s.0 (option_map change (symbol_at a s)) }
+-- a symbol that stands for something else
+abbrev pub standing_for : {K : Type 0} → K → Symbol K → Symbol K
+standing_for what y = record y { what = what }
 
+module _ {K : Type 0} (a : Scopes K) where
   -- with a symbol of this name at a place of a table's declaration order
   abbrev pub declared_in : TableId → ℕ → List ℕ → K → Scopes K
   declared_in t place name what = record {
@@ -40,7 +40,7 @@ module _ {K : Type 0} (a : Scopes K) where
 
   -- with something else that a symbol stands for
   abbrev pub replaced_in : SymId → K → Scopes K
-  replaced_in s what = with_symbol s (λ y. record y { what = what })
+  replaced_in s what = record a { symbols = slice_set a.symbols s.0 (option_map (standing_for what) (symbol_at a s)) }
 
   -- without a table and the symbols in it, where there is one
   abbrev pub without_table : Option TableId → Scopes K
@@ -55,3 +55,7 @@ removed_from a s = option_map_or
       symbols = slice_set (without_table a y.owned).symbols s.0 None;
     })
     (symbol_at a s) a
+
+-- no symbol of the table that a symbol owns owns a table
+abbrev pub OwnsNoOwner : {K : Type 0} → Scopes K → SymId → Type 0
+OwnsNoOwner a s = (u : SymId) → table_of a u ≡ owned_by a s → owned_by a u ≡ None

@@ -1,12 +1,14 @@
 ghost use Rattle.std.specs.Prelude.{◌≡◌, ◌↔◌, Some, IfOk, IsTrue, length};
+ghost use Rattle.symtab_arena.specs.Changes.{replaced_in};
 ghost use Rattle.symtab_arena.specs.Links.{Linked};
-ghost use Rattle.symtab_arena.specs.Scopes.{the_root, next_table as table_next, HasTable, IsLive, live_count, symbol_in, symbol_in_place, parent_of, owner_of, owned_by, table_of, name_of, what_of};
+ghost use Rattle.symtab_arena.specs.Scopes.{the_root, next_table as table_next, HasTable, IsLive, live_count, symbol_in, symbol_in_place, symbol_seen, parent_of, owner_of, owned_by, table_of, name_of, what_of};
 
 mod declare;
+mod remove;
 
 use crate::entries::{entry, there};
 use crate::names::Names;
-use crate::table::{Symbol, Table};
+use crate::table::{Symbol, Table, replace_what};
 use lf_base::{Memory, Name, SymId, TableId};
 use std::alloc::Global;
 use std::marker::Model;
@@ -149,10 +151,35 @@ impl<K> Arena<K> {
         entry(&self.tables, table.0)?.names.find(name.bytes())
     }
 
+    /// The symbol that a name means in a table: the one of the table, else of its parent, and so on up to the root, as
+    /// host association has it (ISO/IEC 1539-1:2018, 19.5.1.4). It takes time in the depth of the table.
+    pub fn lookup_up(&self, table: TableId, name: &Name) -> Option<SymId>
+        ensures { result ≡ symbol_seen self.now table name.now }
+    {
+        self.linked();
+        let mut here = Some(table);
+        while let Some(at) = here {
+            if let Some(symbol) = self.lookup_here(at, name) {
+                return Some(symbol);
+            }
+            here = self.parent(at);
+        }
+        None
+    }
+
     /// The symbol at a place of a table's declaration order, from 0.
     pub fn at(&self, table: TableId, place: usize) -> Option<SymId>
         ensures { result ≡ symbol_in_place self.now table place }
     {
         entry(&self.tables, table.0)?.names.at(place)
+    }
+
+    /// Changes what a live symbol stands for, and hands the old one back.
+    pub fn replace_what(&mut self, symbol: SymId, with: K) -> K
+        requires { IsLive self.old symbol }
+        ensures old { what_of self.old symbol ≡ Some result }
+        ensures new { self.new ≡ replaced_in self.old symbol with }
+    {
+        replace_what(&mut self.symbols, symbol, with)
     }
 }

@@ -100,4 +100,71 @@ impl<K: Drop> Arena<K> {
         self.live += 1;
         Ok(symbol)
     }
+
+    /// Declares a symbol together with an empty table that it owns, whose parent is the table in which the symbol stands.
+    /// It is refused as `declare` is.
+    pub fn declare_owner(
+        &mut self,
+        table: TableId,
+        name: &Name,
+        what: K,
+    ) -> Result<(SymId, TableId), ArenaFault>
+        requires { HasTable self.old table }
+        ensures { Declares self.old table name.now
+            (next_symbol self.old, next_table self.old) (owner_declared_in self.old table (length (names_in self.old table)) name.now what) self.new result }
+    {
+        let place = self.size(table);
+        self.declare_owner_at(table, place, name, what)
+    }
+
+    /// Declares a symbol as `declare_owner` does, at a place of the declaration order. Later symbols move up by one.
+    pub fn declare_owner_at(
+        &mut self,
+        table: TableId,
+        place: usize,
+        name: &Name,
+        what: K,
+    ) -> Result<(SymId, TableId), ArenaFault>
+        requires there { HasTable self.old table }
+        requires within { place ≤ length (names_in self.old table) }
+        ensures { Declares self.old table name.now
+            (next_symbol self.old, next_table self.old) (owner_declared_in self.old table place name.now what) self.new result }
+    {
+        self.admit(table, name)?;
+        Ok(self.add_owner(table, place, name, what)?)
+    }
+
+    fn add_owner(
+        &mut self,
+        table: TableId,
+        place: usize,
+        name: &Name,
+        what: K,
+    ) -> Result<(SymId, TableId), Memory>
+        requires there { HasTable self.old table }
+        requires within { place ≤ length (names_in self.old table) }
+        requires may { MayDeclare self.old table name.now }
+        ensures { Makes self.old (next_symbol self.old, next_table self.old) (owner_declared_in self.old table place name.now what) self.new result }
+    {
+        let key = key_of(self.alloc, name)?;
+        let own = Name::new(self.alloc, name.bytes())?;
+        reserve(&mut self.symbols)?;
+        reserve(&mut self.tables)?;
+        let symbol = SymId(self.symbols.len() as u32);
+        let owned = TableId(self.tables.len() as u32);
+        insert_name(&mut self.tables, table, place, key, symbol)?;
+        self.tables.push_reserved(Some(Table {
+            parent: Some(table),
+            owner: Some(symbol),
+            names: Names::new(self.alloc),
+        }));
+        self.symbols.push_reserved(Some(Symbol {
+            name: own,
+            table,
+            owned: Some(owned),
+            what,
+        }));
+        self.live += 1;
+        Ok((symbol, owned))
+    }
 }

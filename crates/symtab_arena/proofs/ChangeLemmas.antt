@@ -1,20 +1,20 @@
 -- The links stay through what the definitions of declarations say.
-use Rattle.std.proofs.Common.{◌≡◌, ◌≢◌, ℕ, ◌+◌, ◌<◌, ◌≤◌, Bool, List, [], ◌∷◌, ◌++◌, length, insert, slice_set, Option, Some, None, is_some, refl, sym, ap, subst, ◌∙◌, ◌⊎◌, inl, inr, arith, true≢false}
+use Rattle.std.proofs.Common.{◌≡◌, ◌≢◌, ℕ, ◌+◌, ◌<◌, ◌≤◌, Bool, List, [], ◌∷◌, ◌++◌, length, insert, slice_set, Option, Some, None, is_some, true, refl, sym, ap, subst, ◌∙◌, ◌⊎◌, inl, inr, arith, true≢false}
 use Rattle.std.proofs.lemmas.List.{length-set, length_push}
 use Rattle.std.proofs.lemmas.List.Sums.{sum_by-append}
 use Rattle.std.specs.Option.{option_map, option_map_or, option_and_then}
 use Rattle.lf_base.specs.declared.id.SymId.{SymId}
 use Rattle.lf_base.specs.declared.id.TableId.{TableId}
 use Rattle.symtab_arena.specs.Answers.{MayDeclare}
-use Rattle.symtab_arena.specs.Changes.{with_names, declared_in, owner_declared_in}
+use Rattle.symtab_arena.specs.Changes.{with_names, declared_in, owner_declared_in, OwnsNoOwner}
 use Rattle.symtab_arena.specs.Entries.{entry_at}
 use Rattle.symtab_arena.specs.Links.{Linked}
 use Rattle.symtab_arena.specs.Names.{named, AreDistinct}
-use Rattle.symtab_arena.specs.Scopes.{Scopes, symbol_id, table_id, next_symbol, next_table, table_at, HasTable, symbol_at, live_count, names_in, symbol_in, parent_of, owner_of}
+use Rattle.symtab_arena.specs.Scopes.{Scopes, symbol_id, table_id, next_symbol, next_table, table_at, HasTable, symbol_at, live_count, names_in, symbol_in, parent_of, owner_of, IsLive, table_of, owned_by}
 use Rattle.symtab_arena.specs.declared.table.Table.{Table}
 use Rattle.symtab_arena.specs.declared.table.Symbol.{Symbol}
-use Rattle.symtab_arena.proofs.EntryLemmas.{same_or, some_from, there_within, entry_at_within, entry_at_past, entry_at-set_same, entry_at-set_other, entry_at-push_last, entry_at-push_other}
-use Rattle.symtab_arena.proofs.LinkLemmas.{Adds, Opens, Linked-adds, Linked-opens, same_table_or}
+use Rattle.symtab_arena.proofs.EntryLemmas.{same_or, none_some, some_from, there_within, entry_at_within, entry_at_past, entry_at-set_same, entry_at-set_other, entry_at-push_last, entry_at-push_other}
+use Rattle.symtab_arena.proofs.LinkLemmas.{Adds, Opens, Linked-adds, Linked-opens, same_table_or, same_symbol_or, some_is, has_table}
 use Rattle.symtab_arena.proofs.NameLemmas.{Names, named-insert_other, named-insert_same, distinct-insert}
 
 module _ (tables : List (Option Table)) (t : TableId) (change : Names → Names) where
@@ -70,7 +70,8 @@ module _ {K : Type 0} (a : Scopes K) (t : TableId) (place : ℕ) (name : List �
   names_others : (u : TableId) → u ≢ t → names_in declared u ≡ names_in a u
   names_others u d = ap (λ o. option_map_or (λ (v : Table). v.names) o []) (entry_at-with_names_other a.tables t with_name u.0 (λ e. d (ap table_id e)))
 
-  adds : Adds a declared plain
+  -- what is read of the tables and symbols after a declaration
+  pub adds : Adds a declared plain
   adds =
       let x = some_from (table_at a t) there in
       record {
@@ -120,7 +121,8 @@ module _ {K : Type 0} (a : Scopes K) (t : TableId) (place : ℕ) (name : List �
   other_tables : (u : TableId) → u ≢ next_table a → table_at owner_declared u ≡ table_at declared u
   other_tables u d = entry_at-push_other renamed (Some opened) u.0 (λ e. d (ap table_id (e ∙ length_renamed)))
 
-  opens : Opens declared owner_declared (next_symbol a) plain owning (next_table a)
+  -- and what a new table changes
+  pub opens : Opens declared owner_declared (next_symbol a) plain owning (next_table a)
   opens = record {
     was = entry_at-push_last a.symbols (Some plain);
     free = refl;
@@ -155,6 +157,40 @@ module _ {K : Type 0} (a : Scopes K) (t : TableId) (place : ℕ) (name : List �
 
   pub Linked-owner_declared : Linked owner_declared
   Linked-owner_declared = Linked-opens declared owner_declared (next_symbol a) plain owning (next_table a) Linked-declared opens
+
+  -- a symbol whose table has no owner keeps it so when a symbol that owns none is declared anywhere
+  pub childless-declared : (s : SymId) → IsLive a s → OwnsNoOwner a s → OwnsNoOwner declared s
+  childless-declared s live childless u e =
+      let older : s ≢ next_symbol a = λ q. true≢false (sym live ∙ ap (λ v. is_some (symbol_at a v)) q ∙ ap is_some adds.before) in
+      elim (same_symbol_or u (next_symbol a)) [
+        inl q ↦ ap (owned_by declared) q ∙ ap (option_and_then (λ (v : Symbol K). v.owned)) adds.now
+        | inr d ↦
+          ap (option_and_then (λ (v : Symbol K). v.owned)) (adds.others u d)
+          ∙ childless u
+          (sym (ap (option_map (λ (v : Symbol K). v.table)) (adds.others u d)) ∙ e ∙ ap (option_and_then (λ (v : Symbol K). v.owned)) (adds.others s older))
+      ]
+
+  -- a new table is empty
+  pub childless-owner_declared : OwnsNoOwner owner_declared (next_symbol a)
+  childless-owner_declared u e =
+      let owned : table_of owner_declared u ≡ Some (next_table a) = e ∙ ap (option_and_then (λ (v : Symbol K). v.owned)) opens.now in
+      elim (same_symbol_or u (next_symbol a)) [
+        inl q ↦
+          let same : t ≡ next_table a =
+            some_is t (next_table a) (sym (ap (option_map (λ (v : Symbol K). v.table)) opens.now) ∙ ap (table_of owner_declared) (sym q) ∙ owned) in
+          let number = ap (λ (v : TableId). v.0) same in
+          let within = there_within a.tables t.0 there in
+          absurd (omega arith)
+        | inr d ↦ absurd (nowhere u (symbol_at a u) refl (sym (ap (option_map (λ (v : Symbol K). v.table)) (opens.others u d ∙ adds.others u d)) ∙ owned))
+      ]
+    where
+      nowhere : (v : SymId) (o : Option (Symbol K)) → symbol_at a v ≡ o → option_map (λ (x : Symbol K). x.table) (symbol_at a v) ≡ Some (next_table a) → ⊥
+      nowhere v None is q = none_some (next_table a) (sym (ap (option_map (λ (x : Symbol K). x.table)) is) ∙ q)
+      nowhere v (Some x) is q =
+          let same = some_is x.table (next_table a) (sym (ap (option_map (λ (y : Symbol K). y.table)) is) ∙ q) in
+          let number = ap (λ (y : TableId). y.0) same in
+          let within = there_within a.tables x.table.0 (has_table a x.table x.name v (links.stands v x is)) in
+          absurd (omega arith)
 
   one_more : (y : Symbol K) → live_count (record { tables = a.tables; symbols = a.symbols ++ Some y ∷ [] }) ≡ live_count a + 1
   one_more y = sum_by-append _ a.symbols (Some y ∷ [])

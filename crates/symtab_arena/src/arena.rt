@@ -99,6 +99,13 @@ impl<K> Arena<K> {
         entry(&self.symbols, symbol.0).is_some()
     }
 
+    /// Whether a number is that of a table that is there. It may be any number.
+    pub fn has_table(&self, table: TableId) -> bool
+        ensures { IsTrue result ↔ HasTable self.now table }
+    {
+        entry(&self.tables, table.0).is_some()
+    }
+
     /// The table around a table. The root has none.
     pub fn parent(&self, table: TableId) -> Option<TableId>
         ensures { result ≡ parent_of self.now table }

@@ -5,7 +5,9 @@ use std::test::Fail;
 use symtab_arena::{Arena, ArenaFault};
 
 const ROOT: TableId = TableId(0);
+
 const PROGRAM: TableId = TableId(1);
+
 const INNER: TableId = TableId(2);
 
 fn declare(
@@ -37,11 +39,26 @@ fn declare_owner(
 /// A program `p` with the variables `x` and `y` and the procedure `s`, which has an `x` of its own.
 fn sample(rt: &impl Abort, alloc: Global) -> Result<Arena<u32>, Fail> {
     let mut arena = Arena::new(alloc)?;
-    assert_eq!(rt; declare_owner(rt, alloc, &mut arena, ROOT, b"p", 10)?, Ok((SymId(0), PROGRAM)));
-    assert_eq!(rt; declare(rt, alloc, &mut arena, PROGRAM, b"x", 11)?, Ok(SymId(1)));
-    assert_eq!(rt; declare_owner(rt, alloc, &mut arena, PROGRAM, b"s", 12)?, Ok((SymId(2), INNER)));
-    assert_eq!(rt; declare(rt, alloc, &mut arena, INNER, b"x", 13)?, Ok(SymId(3)));
-    assert_eq!(rt; declare(rt, alloc, &mut arena, PROGRAM, b"y", 14)?, Ok(SymId(4)));
+    assert_eq!(rt;
+        declare_owner(rt, alloc, &mut arena, ROOT, b"p", 10)?,
+        Ok((SymId(0), PROGRAM))
+    );
+    assert_eq!(rt;
+        declare(rt, alloc, &mut arena, PROGRAM, b"x", 11)?,
+        Ok(SymId(1))
+    );
+    assert_eq!(rt;
+        declare_owner(rt, alloc, &mut arena, PROGRAM, b"s", 12)?,
+        Ok((SymId(2), INNER))
+    );
+    assert_eq!(rt;
+        declare(rt, alloc, &mut arena, INNER, b"x", 13)?,
+        Ok(SymId(3))
+    );
+    assert_eq!(rt;
+        declare(rt, alloc, &mut arena, PROGRAM, b"y", 14)?,
+        Ok(SymId(4))
+    );
     Ok(arena)
 }
 
@@ -73,7 +90,13 @@ fn tables_and_symbols_name_one_another(rt: HostRuntime) -> Result<(), Fail> {
     let arena = sample(&rt, rt.alloc())?;
     let tables = [
         (ROOT, None, None, Some(SymId(0)), None),
-        (PROGRAM, Some(ROOT), Some(SymId(0)), Some(SymId(1)), Some(SymId(4))),
+        (
+            PROGRAM,
+            Some(ROOT),
+            Some(SymId(0)),
+            Some(SymId(1)),
+            Some(SymId(4)),
+        ),
         (INNER, Some(PROGRAM), Some(SymId(2)), Some(SymId(3)), None),
     ];
     for (table, parent, owner, first, third) in tables {
@@ -110,11 +133,20 @@ fn tables_and_symbols_name_one_another(rt: HostRuntime) -> Result<(), Fail> {
 fn a_second_declaration_changes_nothing(rt: HostRuntime) -> Result<(), Fail> {
     let alloc = rt.alloc();
     let mut arena = sample(&rt, alloc)?;
-    assert_eq!(rt; declare(&rt, alloc, &mut arena, PROGRAM, b"x", 99)?, Err(ArenaFault::Twice(SymId(1))));
-    assert_eq!(rt; declare_owner(&rt, alloc, &mut arena, INNER, b"x", 99)?, Err(ArenaFault::Twice(SymId(3))));
+    assert_eq!(rt;
+        declare(&rt, alloc, &mut arena, PROGRAM, b"x", 99)?,
+        Err(ArenaFault::Twice(SymId(1)))
+    );
+    assert_eq!(rt;
+        declare_owner(&rt, alloc, &mut arena, INNER, b"x", 99)?,
+        Err(ArenaFault::Twice(SymId(3)))
+    );
     assert_eq!(rt; arena.len(), 5);
     assert_eq!(rt; arena.next_table(), TableId(3));
-    assert_eq!(rt; declare(&rt, alloc, &mut arena, ROOT, b"x", 15)?, Ok(SymId(5)));
+    assert_eq!(rt;
+        declare(&rt, alloc, &mut arena, ROOT, b"x", 15)?,
+        Ok(SymId(5))
+    );
     Ok(())
 }
 
@@ -131,7 +163,10 @@ fn places_move_up_and_down(rt: HostRuntime) -> Result<(), Fail> {
     let middle = Name::new(alloc, b"middle")?;
     assert!(rt; arena.at(ROOT, 2) == Some(SymId(1)));
     arena.linked();
-    assert_eq!(rt; arena.declare_owner_at(ROOT, 2, &middle, 2), Ok((SymId(4), PROGRAM)));
+    assert_eq!(rt;
+        arena.declare_owner_at(ROOT, 2, &middle, 2),
+        Ok((SymId(4), PROGRAM))
+    );
     for (place, number) in [(0, 3), (1, 0), (2, 4), (3, 1), (4, 2)] {
         assert_eq!(rt; arena.at(ROOT, place), Some(SymId(number)), "at {place}");
     }
@@ -141,7 +176,11 @@ fn places_move_up_and_down(rt: HostRuntime) -> Result<(), Fail> {
 }
 
 /// Declares a scope with one symbol in it, and takes it out again.
-fn declare_and_remove(arena: &mut Arena<u32>, scope: &Name, inner: &Name) -> Result<u32, ArenaFault> {
+fn declare_and_remove(
+    arena: &mut Arena<u32>,
+    scope: &Name,
+    inner: &Name,
+) -> Result<u32, ArenaFault> {
     arena.linked();
     let (owner, table) = arena.declare_owner(ROOT, scope, 7)?;
     arena.linked();
@@ -156,14 +195,23 @@ fn removed_numbers_are_not_given_again(rt: HostRuntime) -> Result<(), Fail> {
     let scope = Name::new(alloc, b"s")?;
     let inner = Name::new(alloc, b"x")?;
     assert_eq!(rt; declare_and_remove(&mut arena, &scope, &inner), Ok(7));
-    assert_eq!(rt; (arena.len(), arena.given(), arena.next_table()), (0, 2, TableId(2)));
+    assert_eq!(rt;
+        (arena.len(), arena.given(), arena.next_table()),
+        (0, 2, TableId(2))
+    );
     assert!(rt; !arena.live(SymId(0)));
     assert!(rt; !arena.live(SymId(1)));
     assert!(rt; !arena.has_table(PROGRAM));
     assert_eq!(rt; arena.lookup_here(ROOT, &scope), None);
 
-    assert_eq!(rt; declare(&rt, alloc, &mut arena, ROOT, b"s", 9)?, Ok(SymId(2)));
-    assert_eq!(rt; declare(&rt, alloc, &mut arena, ROOT, b"t", 10)?, Ok(SymId(3)));
+    assert_eq!(rt;
+        declare(&rt, alloc, &mut arena, ROOT, b"s", 9)?,
+        Ok(SymId(2))
+    );
+    assert_eq!(rt;
+        declare(&rt, alloc, &mut arena, ROOT, b"t", 10)?,
+        Ok(SymId(3))
+    );
     assert!(rt; arena.live(SymId(2)));
     assert_eq!(rt; arena.replace_what(SymId(2), 20), 9);
     assert!(rt; arena.live(SymId(2)));
@@ -184,8 +232,17 @@ fn the_numbers_end(rt: HostRuntime) -> Result<(), Fail> {
         let _ = arena.declare(ROOT, &name, number)?;
     }
     assert_eq!(rt; (arena.len(), arena.given()), (1_048_576, 1_048_576));
-    assert_eq!(rt; declare(&rt, alloc, &mut arena, ROOT, b"new", 0)?, Err(ArenaFault::Full));
-    assert_eq!(rt; declare_owner(&rt, alloc, &mut arena, ROOT, b"new", 0)?, Err(ArenaFault::Full));
-    assert_eq!(rt; declare(&rt, alloc, &mut arena, ROOT, &[77, 0, 0, 0], 0)?, Err(ArenaFault::Twice(SymId(77))));
+    assert_eq!(rt;
+        declare(&rt, alloc, &mut arena, ROOT, b"new", 0)?,
+        Err(ArenaFault::Full)
+    );
+    assert_eq!(rt;
+        declare_owner(&rt, alloc, &mut arena, ROOT, b"new", 0)?,
+        Err(ArenaFault::Full)
+    );
+    assert_eq!(rt;
+        declare(&rt, alloc, &mut arena, ROOT, &[77, 0, 0, 0], 0)?,
+        Err(ArenaFault::Twice(SymId(77)))
+    );
     Ok(())
 }

@@ -16,14 +16,14 @@ new_scope : (a b d : Scopes ℕ) (t table : TableId) (owner : SymId) (scope inne
 new_scope a b d t table owner scope inner place later v w links links_now there may may_now owner_is table_is b_is d_is =
     let open_now = opens a t place scope v links there may in
     let empty : OwnsNoOwner b owner =
-      subst (λ (e : Scopes ℕ). OwnsNoOwner e owner) (sym b_is)
-      (subst (λ s. OwnsNoOwner (owner_declared_in a t place scope v) s) (sym owner_is) (childless-owner_declared a t place scope v links there may)) in
+    subst (λ (e : Scopes ℕ). OwnsNoOwner e owner) (sym b_is)
+    (subst (λ s. OwnsNoOwner (owner_declared_in a t place scope v) s) (sym owner_is) (childless-owner_declared a t place scope v links there may)) in
     let live : IsLive b owner =
-      subst (λ (e : Scopes ℕ). IsLive e owner) (sym b_is)
-      (subst (λ s. IsLive (owner_declared_in a t place scope v) s) (sym owner_is) (ap is_some open_now.now)) in
+    subst (λ (e : Scopes ℕ). IsLive e owner) (sym b_is)
+    (subst (λ s. IsLive (owner_declared_in a t place scope v) s) (sym owner_is) (ap is_some open_now.now)) in
     let there_now : HasTable b table =
-      subst (λ (e : Scopes ℕ). HasTable e table) (sym b_is)
-      (subst (λ u. HasTable (owner_declared_in a t place scope v) u) (sym table_is) open_now.there) in
+    subst (λ (e : Scopes ℕ). HasTable e table) (sym b_is)
+    (subst (λ u. HasTable (owner_declared_in a t place scope v) u) (sym table_is) open_now.there) in
     subst (λ (e : Scopes ℕ). OwnsNoOwner e owner) (sym d_is) (childless-declared b table later inner w links_now there_now may_now owner live empty)
 
 pub remove_owned-requires-clause-childless : goal.remove_owned-requires-clause-childless

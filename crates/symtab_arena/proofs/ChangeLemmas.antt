@@ -1,5 +1,5 @@
 -- The links stay through what the definitions of declarations say.
-use Rattle.std.proofs.Common.{◌≡◌, ◌≢◌, ℕ, ◌+◌, ◌<◌, ◌≤◌, Bool, List, [], ◌∷◌, ◌++◌, length, insert, slice_set, Option, Some, None, is_some, true, refl, sym, ap, subst, ◌∙◌, ◌⊎◌, inl, inr, arith, true≢false}
+use Rattle.std.proofs.Common.{◌≡◌, ◌≢◌, ℕ, ◌+◌, List, [], ◌∷◌, ◌++◌, length, insert, Option, Some, None, is_some, refl, sym, ap, subst, ◌∙◌, inl, inr, arith, true≢false}
 use Rattle.std.proofs.lemmas.List.{length-set, length_push}
 use Rattle.std.proofs.lemmas.List.Sums.{sum_by-append}
 use Rattle.std.specs.Option.{option_map, option_map_or, option_and_then}
@@ -10,7 +10,7 @@ use Rattle.symtab_arena.specs.Changes.{with_names, declared_in, owner_declared_i
 use Rattle.symtab_arena.specs.Entries.{entry_at}
 use Rattle.symtab_arena.specs.Links.{Linked}
 use Rattle.symtab_arena.specs.Names.{named, AreDistinct}
-use Rattle.symtab_arena.specs.Scopes.{Scopes, symbol_id, table_id, next_symbol, next_table, table_at, HasTable, symbol_at, live_count, names_in, symbol_in, parent_of, owner_of, IsLive, table_of, owned_by}
+use Rattle.symtab_arena.specs.Scopes.{Scopes, symbol_id, table_id, next_symbol, next_table, table_at, HasTable, symbol_at, live_count, names_in, symbol_in, IsLive, table_of, owned_by}
 use Rattle.symtab_arena.specs.declared.table.Table.{Table}
 use Rattle.symtab_arena.specs.declared.table.Symbol.{Symbol}
 use Rattle.symtab_arena.proofs.EntryLemmas.{same_or, none_some, some_from, there_within, entry_at_within, entry_at_past, entry_at-set_same, entry_at-set_other, entry_at-push_last, entry_at-push_other}
@@ -163,11 +163,11 @@ module _ {K : Type 0} (a : Scopes K) (t : TableId) (place : ℕ) (name : List �
   childless-declared s live childless u e =
       let older : s ≢ next_symbol a = λ q. true≢false (sym live ∙ ap (λ v. is_some (symbol_at a v)) q ∙ ap is_some adds.before) in
       elim (same_symbol_or u (next_symbol a)) [
-        inl q ↦ ap (owned_by declared) q ∙ ap (option_and_then (λ (v : Symbol K). v.owned)) adds.now
+        | inl q ↦ ap (owned_by declared) q ∙ ap (option_and_then (λ (v : Symbol K). v.owned)) adds.now
         | inr d ↦
-          ap (option_and_then (λ (v : Symbol K). v.owned)) (adds.others u d)
-          ∙ childless u
-          (sym (ap (option_map (λ (v : Symbol K). v.table)) (adds.others u d)) ∙ e ∙ ap (option_and_then (λ (v : Symbol K). v.owned)) (adds.others s older))
+            ap (option_and_then (λ (v : Symbol K). v.owned)) (adds.others u d)
+            ∙ childless u
+            (sym (ap (option_map (λ (v : Symbol K). v.table)) (adds.others u d)) ∙ e ∙ ap (option_and_then (λ (v : Symbol K). v.owned)) (adds.others s older))
       ]
 
   -- a new table is empty
@@ -175,12 +175,12 @@ module _ {K : Type 0} (a : Scopes K) (t : TableId) (place : ℕ) (name : List �
   childless-owner_declared u e =
       let owned : table_of owner_declared u ≡ Some (next_table a) = e ∙ ap (option_and_then (λ (v : Symbol K). v.owned)) opens.now in
       elim (same_symbol_or u (next_symbol a)) [
-        inl q ↦
-          let same : t ≡ next_table a =
+        | inl q ↦
+            let same : t ≡ next_table a =
             some_is t (next_table a) (sym (ap (option_map (λ (v : Symbol K). v.table)) opens.now) ∙ ap (table_of owner_declared) (sym q) ∙ owned) in
-          let number = ap (λ (v : TableId). v.0) same in
-          let within = there_within a.tables t.0 there in
-          absurd (omega arith)
+            let number = ap (λ (v : TableId). v.0) same in
+            let within = there_within a.tables t.0 there in
+            absurd (omega arith)
         | inr d ↦ absurd (nowhere u (symbol_at a u) refl (sym (ap (option_map (λ (v : Symbol K). v.table)) (opens.others u d ∙ adds.others u d)) ∙ owned))
       ]
     where

@@ -1,15 +1,15 @@
 -- The links stay through a declaration, a new table, a change of what a symbol stands for, and a removal.
-use Rattle.std.proofs.Common.{◌≡◌, ◌≢◌, ℕ, zero, suc, ◌+◌, ◌<◌, ◌≤◌, Bool, true, false, List, [], ◌∷◌, length, Option, Some, None, is_some, refl, sym, ap, subst, ◌∙◌, ◌⊎◌, inl, inr, arith, true≢false}
+use Rattle.std.proofs.Common.{◌≡◌, ◌≢◌, ℕ, zero, suc, ◌+◌, ◌<◌, ◌≤◌, true, List, [], ◌∷◌, length, Option, Some, None, is_some, refl, sym, ap, subst, ◌∙◌, ◌⊎◌, inl, inr, arith, true≢false}
 use Rattle.std.specs.Option.{option_map_or, option_and_then}
 use Rattle.lf_base.specs.declared.id.SymId.{SymId}
 use Rattle.lf_base.specs.declared.id.TableId.{TableId}
 use Rattle.symtab_arena.specs.Entries.{entry_at}
 use Rattle.symtab_arena.specs.Names.{named, AreDistinct}
 use Rattle.symtab_arena.specs.Scopes.{Scopes, symbol_id, table_id, the_root, next_symbol, table_at, HasTable, symbol_at, names_in, symbol_in, parent_of, owner_of, live_count}
-use Rattle.symtab_arena.specs.Links.{Linked, HasOwner, StandsIn}
+use Rattle.symtab_arena.specs.Links.{Linked}
 use Rattle.symtab_arena.specs.declared.table.Table.{Table}
 use Rattle.symtab_arena.specs.declared.table.Symbol.{Symbol}
-use Rattle.symtab_arena.proofs.EntryLemmas.{same_or, none_some, some_from}
+use Rattle.symtab_arena.proofs.EntryLemmas.{same_or, none_some}
 use Rattle.symtab_arena.proofs.NameLemmas.{same_name_or}
 
 pub same_symbol_or : (s u : SymId) → (s ≡ u) ⊎ (s ≢ u)

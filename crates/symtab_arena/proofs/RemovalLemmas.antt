@@ -1,24 +1,24 @@
 -- The links stay through what the definitions of a removal and of a change of what a symbol stands for say.
-use Rattle.std.proofs.Common.{◌≡◌, ◌≢◌, ℕ, suc, ◌+◌, ◌-◌, ◌<◌, ◌≤◌, ◌==◌, Bool, true, false, List, [], ◌∷◌, length, map, slice_set, Option, Some, None, is_some, if◌then◌else◌, refl, sym, ap, subst, ◌∙◌, ◌⊎◌, inl, inr, arith, true≢false}
+use Rattle.std.proofs.Common.{◌≡◌, ◌≢◌, ℕ, suc, ◌+◌, ◌-◌, ◌≤◌, true, List, [], ◌∷◌, length, map, slice_set, Option, Some, None, is_some, if◌then◌else◌, refl, sym, ap, subst, ◌∙◌, ◌⊎◌, inl, inr, arith, true≢false}
 use Rattle.std.proofs.lemmas.Bool.Decides.{eqb_tells}
 use Rattle.std.proofs.lemmas.List.{length-set}
 use Rattle.std.specs.List.{count_by}
 use Rattle.std.specs.Option.{option_map, option_map_or, option_and_then}
 use Rattle.lf_base.specs.declared.id.SymId.{SymId}
 use Rattle.lf_base.specs.declared.id.TableId.{TableId}
-use Rattle.symtab_arena.specs.Changes.{with_names, outside, standing_for, replaced_in, without_table, removed_from, OwnsNoOwner}
+use Rattle.symtab_arena.specs.Changes.{with_names, outside, without_table, removed_from, OwnsNoOwner}
 use Rattle.symtab_arena.specs.Entries.{entry_at}
 use Rattle.symtab_arena.specs.Links.{Linked}
 use Rattle.symtab_arena.specs.Names.{named, without, AreDistinct}
-use Rattle.symtab_arena.specs.Scopes.{Scopes, symbol_id, table_id, table_at, HasTable, symbol_at, live_count, names_in, symbol_in, parent_of, owner_of, table_of, owned_by}
+use Rattle.symtab_arena.specs.Scopes.{Scopes, symbol_id, table_id, table_at, HasTable, symbol_at, live_count, names_in, symbol_in, owner_of, owned_by}
 use Rattle.symtab_arena.specs.Tables.{cleared}
 use Rattle.symtab_arena.specs.declared.table.Table.{Table}
 use Rattle.symtab_arena.specs.declared.table.Symbol.{Symbol}
 use Rattle.symtab_arena.proofs.ChangeLemmas.{length-with_names, entry_at-with_names_other, entry_at-with_names_same, with_names-keeps}
 use Rattle.symtab_arena.proofs.ClearLemmas.{length-cleared, cleared-nothing, cleared-listed, cleared-other}
-use Rattle.symtab_arena.proofs.EntryLemmas.{same_or, none_some, some_from, there_within, entry_at_within, entry_at-set_same, entry_at-set_other, entry_at-set_none, entry_at-map, same_entries, count-set_none, count-set_some}
+use Rattle.symtab_arena.proofs.EntryLemmas.{same_or, none_some, some_from, entry_at-set_other, entry_at-set_none, entry_at-map, same_entries, count-set_none}
 use Rattle.symtab_arena.proofs.LinkLemmas.{Removes, Linked-removes, has_table, same_symbol_or, same_table_or, some_is}
-use Rattle.symtab_arena.proofs.NameLemmas.{Names, named-without_other, named-without_same, distinct-without}
+use Rattle.symtab_arena.proofs.NameLemmas.{named-without_other, named-without_same, distinct-without}
 
 owns_or : (o : Option TableId) (t : TableId) → (o ≡ Some t) ⊎ (o ≢ Some t)
 owns_or None t = inr (λ e. none_some t e)

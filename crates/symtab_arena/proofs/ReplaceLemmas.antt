@@ -1,13 +1,12 @@
 -- The links stay through a change of what a symbol stands for.
-use Rattle.std.proofs.Common.{◌≡◌, ◌≢◌, ℕ, ◌+◌, ◌<◌, ◌≤◌, List, length, slice_set, Option, Some, None, is_some, refl, sym, ap, subst, ◌∙◌, ◌⊎◌, inl, inr, arith}
+use Rattle.std.proofs.Common.{◌≡◌, ℕ, List, slice_set, Option, Some, is_some, refl, sym, ap, subst, ◌∙◌, inl, inr, arith}
 use Rattle.std.proofs.lemmas.List.{length-set}
 use Rattle.std.specs.List.{count_by}
 use Rattle.std.specs.Option.{option_map}
 use Rattle.lf_base.specs.declared.id.SymId.{SymId}
-use Rattle.symtab_arena.specs.Changes.{standing_for, replaced_in}
+use Rattle.symtab_arena.specs.Changes.{standing_for}
 use Rattle.symtab_arena.specs.Links.{Linked}
 use Rattle.symtab_arena.specs.Scopes.{Scopes, symbol_id, symbol_at, live_count, symbol_in}
-use Rattle.symtab_arena.specs.declared.table.Table.{Table}
 use Rattle.symtab_arena.specs.declared.table.Symbol.{Symbol}
 use Rattle.symtab_arena.proofs.EntryLemmas.{entry_at_within, entry_at-set_same, entry_at-set_other, count-set_some}
 use Rattle.symtab_arena.proofs.LinkLemmas.{same_symbol_or, some_is}

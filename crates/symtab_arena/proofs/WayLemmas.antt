@@ -1,5 +1,5 @@
 -- The way from a table to the root.
-use Rattle.std.proofs.Common.{◌≡◌, ◌≢◌, ℕ, zero, suc, ◌+◌, ◌<◌, ◌≤◌, true, List, [], length, Option, Some, None, is_some, refl, sym, ap, ◌∙◌, ◌⊎◌, inl, inr, arith}
+use Rattle.std.proofs.Common.{◌≡◌, ℕ, zero, suc, ◌<◌, true, List, [], length, Option, Some, None, is_some, refl, sym, ap, ◌∙◌, inl, inr, arith}
 use Rattle.std.specs.Option.{option_map_or, option_and_then, option_or}
 use Rattle.lf_base.specs.declared.id.SymId.{SymId}
 use Rattle.lf_base.specs.declared.id.TableId.{TableId}
@@ -7,7 +7,7 @@ use Rattle.symtab_arena.specs.Links.{Linked}
 use Rattle.symtab_arena.specs.Names.{named}
 use Rattle.symtab_arena.specs.Scopes.{Scopes, table_id, table_at, HasTable, symbol_in, symbol_within, symbol_seen, parent_of}
 use Rattle.symtab_arena.specs.declared.table.Table.{Table}
-use Rattle.symtab_arena.proofs.EntryLemmas.{same_or, none_some, some_from, there_within}
+use Rattle.symtab_arena.proofs.EntryLemmas.{same_or, none_some, there_within}
 use Rattle.symtab_arena.proofs.LinkLemmas.{some_is}
 
 module _ {K : Type 0} (a : Scopes K) (links : Linked a) where

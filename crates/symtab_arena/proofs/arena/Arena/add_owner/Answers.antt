@@ -1,4 +1,4 @@
-use Rattle.std.proofs.Common.{sym, ap, subst, ◌∙◌, length, insert, arith, Some, None, [], ◌∷◌, ◌++◌}
+use Rattle.std.proofs.Common.{sym, ap, subst, ◌∙◌, length, insert, arith, Some, [], ◌∷◌, ◌++◌}
 use Rattle.symtab_arena.specs.Answers.{MayDeclare}
 use Rattle.symtab_arena.specs.Changes.{with_names}
 use Rattle.symtab_arena.specs.Scopes.{HasTable, symbol_id, table_id}

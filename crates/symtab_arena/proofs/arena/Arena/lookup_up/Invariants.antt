@@ -1,4 +1,4 @@
-use Rattle.std.proofs.Common.{◌≡◌, ℕ, ◌+◌, Option, Some, None}
+use Rattle.std.proofs.Common.{◌≡◌, ◌+◌}
 use Rattle.std.specs.Option.{option_and_then, option_map_or}
 use Rattle.lf_base.specs.declared.id.TableId.{TableId}
 use Rattle.symtab_arena.specs.Scopes.{symbol_seen}

@@ -1,5 +1,5 @@
 use Rattle.std.proofs.Common.{sym, subst}
-use Rattle.symtab_arena.specs.Scopes.{symbol_at, IsLive}
+use Rattle.symtab_arena.specs.Scopes.{IsLive}
 use Rattle.symtab_arena.proofs.EntryLemmas.{some_from}
 use Rattle.symtab_arena.proofs.ReplaceLemmas.{replaced_keeps}
 use Rattle.symtab_arena.proofs.arena.Arena.replace_what.Goals as goal

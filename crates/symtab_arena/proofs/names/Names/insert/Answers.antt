@@ -1,4 +1,4 @@
-use Rattle.std.proofs.Common.{◌∙◌, ap, sym, ◌∷◌, [], ◌++◌, ◌≡◌}
+use Rattle.std.proofs.Common.{◌∙◌, ap, ◌∷◌, [], ◌++◌}
 use Rattle.indexmap.specs.IndexMap.{move_index}
 use Rattle.symtab_arena.proofs.Seen.{seen, map-move_index, move_index-last}
 use Rattle.symtab_arena.proofs.names.Names.insert.Goals as goal

@@ -1,7 +1,6 @@
-use Rattle.std.proofs.Common.{◌≡◌, ◌∙◌, ap, List, [], ◌∷◌, ◌++◌, None}
+use Rattle.std.proofs.Common.{◌∙◌, ap, [], ◌∷◌, ◌++◌}
 use Rattle.std.proofs.lemmas.List.{map-append}
 use Rattle.std.specs.Str.{bytes_eq}
-use Rattle.indexmap.specs.IndexMap.{get}
 use Rattle.indexmap.proofs.CallerLemmas.{insert_entry-new}
 use Rattle.symtab_arena.specs.Names.{named}
 use Rattle.symtab_arena.proofs.Seen.{seen, lookup-seen}

@@ -6,32 +6,32 @@ use Rattle.std.specs.Option.{option_map, option_map_or, option_and_then}
 use Rattle.lf_base.specs.declared.id.SymId.{SymId}
 use Rattle.lf_base.specs.declared.id.TableId.{TableId}
 use Rattle.symtab_arena.specs.Answers.{MayDeclare}
-use Rattle.symtab_arena.specs.Changes.{with_names, declared_in, owner_declared_in, OwnsNoOwner}
+use Rattle.symtab_arena.specs.Changes.{renamed, with_names, declared_in, owner_declared_in, OwnsNoOwner}
 use Rattle.symtab_arena.specs.Entries.{entry_at}
 use Rattle.symtab_arena.specs.Links.{Linked}
-use Rattle.symtab_arena.specs.Names.{named, AreDistinct}
+use Rattle.symtab_arena.specs.Names.{Names, named, AreDistinct}
 use Rattle.symtab_arena.specs.Scopes.{Scopes, symbol_id, table_id, next_symbol, next_table, table_at, HasTable, symbol_at, live_count, names_in, symbol_in, IsLive, table_of, owned_by}
 use Rattle.symtab_arena.specs.declared.table.Table.{Table}
 use Rattle.symtab_arena.specs.declared.table.Symbol.{Symbol}
 use Rattle.symtab_arena.proofs.EntryLemmas.{same_or, none_some, some_from, there_within, entry_at_within, entry_at_past, entry_at-set_same, entry_at-set_other, entry_at-push_last, entry_at-push_other}
 use Rattle.symtab_arena.proofs.LinkLemmas.{Adds, Opens, Linked-adds, Linked-opens, same_table_or, same_symbol_or, some_is, has_table}
-use Rattle.symtab_arena.proofs.NameLemmas.{Names, named-insert_other, named-insert_same, distinct-insert}
+use Rattle.symtab_arena.proofs.NameLemmas.{named-insert_other, named-insert_same, distinct-insert}
 
 module _ (tables : List (Option Table)) (t : TableId) (change : Names → Names) where
   pub length-with_names : length (with_names tables t change) ≡ length tables
-  length-with_names = length-set tables t.0 (option_map {T = Table} (λ x. record x { names = change x.names }) (entry_at tables t.0))
+  length-with_names = length-set tables t.0 (option_map (renamed change) (entry_at tables t.0))
 
   pub entry_at-with_names_other : (n : ℕ) → n ≢ t.0 → entry_at (with_names tables t change) n ≡ entry_at tables n
-  entry_at-with_names_other n d = entry_at-set_other tables t.0 n (option_map {T = Table} (λ x. record x { names = change x.names }) (entry_at tables t.0)) d
+  entry_at-with_names_other n d = entry_at-set_other tables t.0 n (option_map (renamed change) (entry_at tables t.0)) d
 
   module _ (x : Table) (at : entry_at tables t.0 ≡ Some x) where
-    pub entry_at-with_names_same : entry_at (with_names tables t change) t.0 ≡ Some (record x { names = change x.names })
+    pub entry_at-with_names_same : entry_at (with_names tables t change) t.0 ≡ Some (renamed change x)
     entry_at-with_names_same =
-        entry_at-set_same tables t.0 (option_map {T = Table} (λ v. record v { names = change v.names }) (entry_at tables t.0)) (entry_at_within tables t.0 x at)
-        ∙ ap (option_map {T = Table} (λ v. record v { names = change v.names })) at
+        entry_at-set_same tables t.0 (option_map (renamed change) (entry_at tables t.0)) (entry_at_within tables t.0 x at)
+        ∙ ap (option_map (renamed change)) at
 
     -- what does not read the names stays
-    pub with_names-keeps : {Y : Type 0} (f : Option Table → Y) → f (Some (record x { names = change x.names })) ≡ f (Some x)
+    pub with_names-keeps : {Y : Type 0} (f : Option Table → Y) → f (Some (renamed change x)) ≡ f (Some x)
         → (n : ℕ) → f (entry_at (with_names tables t change) n) ≡ f (entry_at tables n)
     with_names-keeps f h n =
         elim (same_or n t.0) [
@@ -52,8 +52,8 @@ module _ {K : Type 0} (a : Scopes K) (t : TableId) (place : ℕ) (name : List �
   abbrev opened : Table
   opened = record { parent = Some t; owner = Some (next_symbol a); names = [] }
 
-  abbrev renamed : List (Option Table)
-  renamed = with_names a.tables t with_name
+  abbrev tables_now : List (Option Table)
+  tables_now = with_names a.tables t with_name
 
   abbrev declared : Scopes K
   declared = declared_in a t place name what
@@ -109,17 +109,17 @@ module _ {K : Type 0} (a : Scopes K) (t : TableId) (place : ℕ) (name : List �
   pub Linked-declared : Linked declared
   Linked-declared = Linked-adds a declared plain links adds refl
 
-  length_renamed : length renamed ≡ length a.tables
-  length_renamed = length-with_names a.tables t with_name
+  length_tables_now : length tables_now ≡ length a.tables
+  length_tables_now = length-with_names a.tables t with_name
 
   opened_at : entry_at owner_declared.tables (length a.tables) ≡ Some opened
-  opened_at = ap (entry_at owner_declared.tables) (sym length_renamed) ∙ entry_at-push_last renamed (Some opened)
+  opened_at = ap (entry_at owner_declared.tables) (sym length_tables_now) ∙ entry_at-push_last tables_now (Some opened)
 
-  closed_at : entry_at renamed (length a.tables) ≡ None
-  closed_at = entry_at_past renamed (length a.tables) (let n = length_renamed in omega arith)
+  closed_at : entry_at tables_now (length a.tables) ≡ None
+  closed_at = entry_at_past tables_now (length a.tables) (let n = length_tables_now in omega arith)
 
   other_tables : (u : TableId) → u ≢ next_table a → table_at owner_declared u ≡ table_at declared u
-  other_tables u d = entry_at-push_other renamed (Some opened) u.0 (λ e. d (ap table_id (e ∙ length_renamed)))
+  other_tables u d = entry_at-push_other tables_now (Some opened) u.0 (λ e. d (ap table_id (e ∙ length_tables_now)))
 
   -- and what a new table changes
   pub opens : Opens declared owner_declared (next_symbol a) plain owning (next_table a)
@@ -135,7 +135,7 @@ module _ {K : Type 0} (a : Scopes K) (t : TableId) (place : ℕ) (name : List �
     parent_is = ap (option_and_then (λ (v : Table). v.parent)) opened_at;
     owner_is = ap (option_and_then (λ (v : Table). v.owner)) opened_at;
     no_owner = ap (option_and_then (λ (v : Table). v.owner)) closed_at;
-    later = λ u h. let n = there_within renamed u.0 h in let m = length_renamed in omega arith;
+    later = λ u h. let n = there_within tables_now u.0 h in let m = length_tables_now in omega arith;
     tables = other_tables;
     names = λ u.
         elim (same_table_or u (next_table a)) [
@@ -149,8 +149,8 @@ module _ {K : Type 0} (a : Scopes K) (t : TableId) (place : ℕ) (name : List �
     symbols_given = let n = length_push a.symbols (Some owning) in let m = may.number_left in omega arith;
     tables_given =
         let n = length_push a.symbols (Some owning) in
-        let m = length_push renamed (Some opened) in
-        let l = length_renamed in
+        let m = length_push tables_now (Some opened) in
+        let l = length_tables_now in
         let k = links.tables_given in
         omega arith;
   }

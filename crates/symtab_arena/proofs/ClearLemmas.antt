@@ -4,10 +4,10 @@ use Rattle.std.proofs.lemmas.List.{length-set}
 use Rattle.std.specs.Option.{option_map}
 use Rattle.lf_base.specs.declared.id.SymId.{SymId}
 use Rattle.symtab_arena.specs.Entries.{entry_at}
-use Rattle.symtab_arena.specs.Names.{named, AreDistinct}
+use Rattle.symtab_arena.specs.Names.{Names, named, AreDistinct}
 use Rattle.symtab_arena.specs.Tables.{cleared}
 use Rattle.symtab_arena.proofs.EntryLemmas.{same_or, none_some, entry_at-set_none, entry_at-set_other}
-use Rattle.symtab_arena.proofs.NameLemmas.{Names, same_name_or, named_at, named_past}
+use Rattle.symtab_arena.proofs.NameLemmas.{same_name_or, named_at, named_past}
 
 module _ {X : Type 0} where
   step_at : (names : Names) (place : ℕ) (s : SymId) (xs : List (Option X)) → option_map (λ e. e.1) (slice_get names place) ≡ Some s

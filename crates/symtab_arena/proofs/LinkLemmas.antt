@@ -5,7 +5,7 @@ use Rattle.lf_base.specs.declared.id.SymId.{SymId}
 use Rattle.lf_base.specs.declared.id.TableId.{TableId}
 use Rattle.symtab_arena.specs.Entries.{entry_at}
 use Rattle.symtab_arena.specs.Names.{named, AreDistinct}
-use Rattle.symtab_arena.specs.Scopes.{Scopes, symbol_id, table_id, the_root, next_symbol, table_at, HasTable, symbol_at, names_in, symbol_in, parent_of, owner_of, live_count}
+use Rattle.symtab_arena.specs.Scopes.{Scopes, symbol_numbers, symbol_id, table_id, the_root, next_symbol, table_at, HasTable, symbol_at, names_in, symbol_in, parent_of, owner_of, live_count}
 use Rattle.symtab_arena.specs.Links.{Linked}
 use Rattle.symtab_arena.specs.declared.table.Table.{Table}
 use Rattle.symtab_arena.specs.declared.table.Symbol.{Symbol}
@@ -79,7 +79,7 @@ module _ {K : Type 0} where
     pub named_now : symbol_in b y.table y.name ≡ Some (next_symbol a)
     pub named_others : (t : TableId) (n : List ℕ) → (t ≡ y.table → n ≡ y.name → ⊥) → symbol_in b t n ≡ symbol_in a t n
     pub distinct : (t : TableId) → AreDistinct (names_in b t)
-    pub symbols_given : length b.symbols ≤ 1048576
+    pub symbols_given : length b.symbols ≤ symbol_numbers
     pub tables_given : length b.tables ≤ length b.symbols + 1
 
   module _ (a b : Scopes K) (y : Symbol K) (links : Linked a) (adds : Adds a b y) where
@@ -158,7 +158,7 @@ module _ {K : Type 0} where
     pub later : (t : TableId) → HasTable a t → t.0 < new.0
     pub tables : (t : TableId) → t ≢ new → table_at b t ≡ table_at a t
     pub names : (t : TableId) → names_in b t ≡ names_in a t
-    pub symbols_given : length b.symbols ≤ 1048576
+    pub symbols_given : length b.symbols ≤ symbol_numbers
     pub tables_given : length b.tables ≤ length b.symbols + 1
 
   module _ (a b : Scopes K) (s : SymId) (y z : Symbol K) (new : TableId) (links : Linked a) (opens : Opens a b s y z new) where
@@ -257,7 +257,7 @@ module _ {K : Type 0} where
     pub unnamed : symbol_in b y.table y.name ≡ None
     pub named_others : (t : TableId) (n : List ℕ) → y.owned ≢ Some t → (t ≡ y.table → n ≡ y.name → ⊥) → symbol_in b t n ≡ symbol_in a t n
     pub distinct : (t : TableId) → AreDistinct (names_in b t)
-    pub symbols_given : length b.symbols ≤ 1048576
+    pub symbols_given : length b.symbols ≤ symbol_numbers
     pub tables_given : length b.tables ≤ length b.symbols + 1
 
   module _ (a b : Scopes K) (s : SymId) (y : Symbol K) (links : Linked a) (removes : Removes a b s y) where

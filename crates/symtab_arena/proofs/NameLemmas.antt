@@ -4,11 +4,8 @@ use Rattle.std.proofs.lemmas.Slice.Eq.{bytes_eq-Decides}
 use Rattle.std.specs.Bool.{Decides}
 use Rattle.std.specs.Str.{bytes_eq}
 use Rattle.lf_base.specs.declared.id.SymId.{SymId}
-use Rattle.symtab_arena.specs.Names.{named, without, AreDistinct}
+use Rattle.symtab_arena.specs.Names.{Names, named, without, AreDistinct}
 use Rattle.symtab_arena.proofs.EntryLemmas.{none_some}
-
-abbrev pub Names : Type 0
-Names = List (List ℕ × SymId)
 
 pub same_name_or : (n m : List ℕ) → ((bytes_eq n m ≡ true) × (n ≡ m)) ⊎ ((bytes_eq n m ≡ false) × (n ≢ m))
 same_name_or n m = by (bytes_eq n m) refl (bytes_eq-Decides n m)

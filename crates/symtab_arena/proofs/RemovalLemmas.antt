@@ -142,7 +142,7 @@ module _ {K : Type 0} where
         → (t : TableId) → f (table_at after t) ≡ f (entry_at base.tables t.0)
     keeps f h t = let x = some_from (entry_at base.tables y.table.0) table_there in with_names-keeps base.tables y.table (without y.name) x.0 x.1 f (h x.0) t.0
 
-    removes : ((u : SymId) (x : Symbol K) → symbol_at a u ≡ Some x → y.owned ≡ Some x.table → x.owned ≡ None) → Removes a after s y
+    pub removes : ((u : SymId) (x : Symbol K) → symbol_at a u ≡ Some x → y.owned ≡ Some x.table → x.owned ≡ None) → Removes a after s y
     removes childless = record {
       was = was;
       childless = childless;

@@ -5,14 +5,17 @@ use Rattle.std.specs.Option.{option_map, option_map_or}
 use Rattle.lf_base.specs.declared.id.SymId.{SymId}
 use Rattle.lf_base.specs.declared.id.TableId.{TableId}
 use Rattle.symtab_arena.specs.Entries.{entry_at}
-use Rattle.symtab_arena.specs.Names.{without}
+use Rattle.symtab_arena.specs.Names.{Names, without}
 use Rattle.symtab_arena.specs.Scopes.{Scopes, symbol_at, next_symbol, next_table, table_of, owned_by}
 use Rattle.symtab_arena.specs.declared.table.Table.{Table}
 use Rattle.symtab_arena.specs.declared.table.Symbol.{Symbol}
 
 -- with other names in one table
-abbrev pub with_names : List (Option Table) → TableId → (List (List ℕ × SymId) → List (List ℕ × SymId)) → List (Option Table)
-with_names tables t change = slice_set tables t.0 (option_map {T = Table} (λ x. record x { names = change x.names }) (entry_at tables t.0))
+abbrev pub renamed : (Names → Names) → Table → Table
+renamed change x = record x { names = change x.names }
+
+abbrev pub with_names : List (Option Table) → TableId → (Names → Names) → List (Option Table)
+with_names tables t change = slice_set tables t.0 (option_map (renamed change) (entry_at tables t.0))
 
 -- a symbol that does not stand in the table
 abbrev pub outside : {K : Type 0} → TableId → Option (Symbol K) → Option (Symbol K)
@@ -34,7 +37,8 @@ module _ {K : Type 0} (a : Scopes K) where
   -- with a symbol that owns a new empty table besides
   abbrev pub owner_declared_in : TableId → ℕ → List ℕ → K → Scopes K
   owner_declared_in t place name what = record {
-    tables = with_names a.tables t (λ names. insert names place (name, next_symbol a)) ++ Some (record { parent = Some t; owner = Some (next_symbol a); names = [] }) ∷ [];
+    tables = with_names a.tables t (λ names. insert names place (name, next_symbol a))
+        ++ Some (record { parent = Some t; owner = Some (next_symbol a); names = [] }) ∷ [];
     symbols = a.symbols ++ Some (record { name = name; table = t; owned = Some (next_table a); what = what }) ∷ [];
   }
 

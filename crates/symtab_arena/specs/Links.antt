@@ -4,7 +4,7 @@ use Rattle.std.specs.Prelude.{◌≡◌, ◌≢◌, ℕ, ◌+◌, ◌<◌, ◌�
 use Rattle.lf_base.specs.declared.id.SymId.{SymId}
 use Rattle.lf_base.specs.declared.id.TableId.{TableId}
 use Rattle.symtab_arena.specs.Names.{AreDistinct}
-use Rattle.symtab_arena.specs.Scopes.{Scopes, table_id, symbol_at, names_in, symbol_in, parent_of, owner_of, HasTable}
+use Rattle.symtab_arena.specs.Scopes.{Scopes, symbol_numbers, table_id, symbol_at, names_in, symbol_in, parent_of, owner_of, HasTable}
 use Rattle.symtab_arena.specs.declared.table.Symbol.{Symbol}
 
 module _ {K : Type 0} (a : Scopes K) where
@@ -34,12 +34,13 @@ module _ {K : Type 0} (a : Scopes K) where
     pub root_owner : owner_of a (table_id 0) ≡ None
     pub owners : (t : TableId) → HasTable a t → t.0 ≢ 0 → HasOwner t
     -- A symbol that owns a table is the owner that the table names, so no two own one table.
-    pub owned : (s : SymId) (y : Symbol K) (t : TableId) → symbol_at a s ≡ Some y → y.owned ≡ Some t → owner_of a t ≡ Some s
+    pub owned : (s : SymId) (y : Symbol K) (t : TableId)
+        → symbol_at a s ≡ Some y → y.owned ≡ Some t → owner_of a t ≡ Some s
     -- A live symbol stands in the table that it names, under its name, and what stands in a table is live and names it.
     pub stands : (s : SymId) (y : Symbol K) → symbol_at a s ≡ Some y → symbol_in a y.table y.name ≡ Some s
     pub lists : (t : TableId) (name : List ℕ) (s : SymId) → symbol_in a t name ≡ Some s → StandsIn t name s
     -- The names of a table are distinct.
     pub distinct : (t : TableId) → AreDistinct (names_in a t)
-    -- At most 1,048,576 symbols are declared, and as many tables besides the root.
-    pub symbols_given : length a.symbols ≤ 1048576
+    -- No more symbols were declared than there are numbers, nor more tables besides the root.
+    pub symbols_given : length a.symbols ≤ symbol_numbers
     pub tables_given : length a.tables ≤ length a.symbols + 1

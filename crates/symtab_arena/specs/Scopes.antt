@@ -5,7 +5,7 @@ use Rattle.std.specs.Option.{option_map, option_map_or, option_and_then, option_
 use Rattle.lf_base.specs.declared.id.SymId.{SymId}
 use Rattle.lf_base.specs.declared.id.TableId.{TableId}
 use Rattle.symtab_arena.specs.Entries.{entry_at}
-use Rattle.symtab_arena.specs.Names.{named}
+use Rattle.symtab_arena.specs.Names.{Names, named}
 use Rattle.symtab_arena.specs.declared.table.Table.{Table}
 use Rattle.symtab_arena.specs.declared.table.Symbol.{Symbol}
 
@@ -19,6 +19,10 @@ symbol_id n = record { 0 = n }
 
 abbrev pub table_id : ℕ → TableId
 table_id n = record { 0 = n }
+
+-- how many numbers of symbols there are
+abbrev pub symbol_numbers : ℕ
+symbol_numbers = 1048576
 
 -- the root table, number 0, with no symbol
 abbrev pub the_root : {K : Type 0} → Scopes K
@@ -49,7 +53,7 @@ module _ {K : Type 0} (a : Scopes K) where
   live_count = count_by is_some a.symbols
 
   -- the names of a table with their symbols, in declaration order
-  abbrev pub names_in : TableId → List (List ℕ × SymId)
+  abbrev pub names_in : TableId → Names
   names_in t = option_map_or (λ x. x.names) (table_at t) []
 
   -- the symbol at a place of the declaration order
@@ -66,10 +70,11 @@ module _ {K : Type 0} (a : Scopes K) where
   abbrev pub owner_of : TableId → Option SymId
   owner_of t = option_and_then (λ x. x.owner) (table_at t)
 
-  -- the symbol of a name in the first of n tables that has it: the table, its parent, and so on towards the root
+  -- the symbol of a name in the first of n tables that has it: the table, its parent, and so on
   abbrev pub symbol_within : ℕ → TableId → List ℕ → Option SymId
   symbol_within zero t name = None
-  symbol_within (suc n) t name = option_or (symbol_in t name) (option_and_then (λ p. symbol_within n p name) (parent_of t))
+  symbol_within (suc n) t name =
+      option_or (symbol_in t name) (option_and_then (λ p. symbol_within n p name) (parent_of t))
 
   -- the symbol that a name means in a table: no way to the root is longer than the number of tables
   abbrev pub symbol_seen : TableId → List ℕ → Option SymId

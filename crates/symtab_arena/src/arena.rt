@@ -15,12 +15,15 @@ use std::marker::Model;
 
 /// Tables of symbols by number, for the scopes of a program (ISO/IEC 1539-1:2018, 19.1).
 ///
-/// A table names its parent and the symbol that owns it. A symbol names its table and may own another. The root is table 0.
-/// Every other table has one owner, and its parent is the table in which that owner stands. Names in a table are distinct, and
-/// each table keeps the order in which its names were declared. Numbers are given in rising order and never again.
+/// A table names its parent and the symbol that owns it. A symbol names its table and may own
+/// another. The root is table 0. Every other table has one owner, and its parent is the table in
+/// which that owner stands. Names in a table are distinct, and each table keeps the order in which
+/// its names were declared. Numbers are given in rising order and never again.
 ///
-/// Looking a name up and declaring one take expected constant time in the size of a table. The hasher is the default of
-/// `indexmap` and is not keyed: names that are chosen to collide make this slower.
+/// Looking a name up and declaring one last take expected constant time in the size of a table. A
+/// removal and a declaration before others take time in the number of the table's symbols. The
+/// hasher is the default of `indexmap` and is not keyed: names that are chosen to collide make
+/// look-ups slower.
 #[derive(Drop)]
 pub struct Arena<K> {
     alloc: Global,
@@ -39,7 +42,8 @@ impl<K> Model for Arena<K> {
     ghost view = { λ a. record { tables = a.tables.items; symbols = a.symbols.items } };
 
     ghost invariant = { λ a. Linked (record { tables = a.tables.items; symbols = a.symbols.items })
-        × (a.live ≡ live_count (record { tables = a.tables.items; symbols = a.symbols.items })) };
+        × (a.live
+        ≡ live_count (record { tables = a.tables.items; symbols = a.symbols.items })) };
 }
 
 impl<K> Arena<K> {
@@ -71,7 +75,8 @@ impl<K> Arena<K> {
         let _ = &self.tables;
     }
 
-    /// How many symbol numbers have been given, those of removed symbols among them. It is the next symbol's number.
+    /// How many symbol numbers have been given, those of removed symbols among them. It is the next
+    /// symbol's number.
     pub fn given(&self) -> usize
         ensures { result ≡ length self.now.symbols }
     {
@@ -158,8 +163,9 @@ impl<K> Arena<K> {
         entry(&self.tables, table.0)?.names.find(name.bytes())
     }
 
-    /// The symbol that a name means in a table: the one of the table, else of its parent, and so on up to the root, as
-    /// host association has it (ISO/IEC 1539-1:2018, 19.5.1.4). It takes time in the depth of the table.
+    /// The symbol that a name means in a table: the one of the table, else of its parent, and so on
+    /// up to the root, as host association has it (ISO/IEC 1539-1:2018, 19.5.1.4). It takes time in
+    /// the depth of the table.
     pub fn lookup_up(&self, table: TableId, name: &Name) -> Option<SymId>
         ensures { result ≡ symbol_seen self.now table name.now }
     {

@@ -34,6 +34,7 @@ impl Names {
         }
     }
 
+    /// How many there are.
     pub fn len(&self) -> usize
         ensures { result ≡ length self.now }
     {
@@ -64,9 +65,10 @@ impl Names {
         ensures err { OnErr result (self.new ≡ self.old) }
     {
         match self.entries.insert(name, symbol) {
-            Ok(_) => return Ok(()),
+            Ok(_) => {}
             Err(_) => return Err(Memory),
         }
+        Ok(())
     }
 
     /// Puts a new name at a place of the declaration order. Later ones move up by one.

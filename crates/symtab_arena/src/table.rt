@@ -44,7 +44,8 @@ pub(crate) fn insert_name(
     requires there { IsThere tables.old.items table.0 }
     requires within { place ≤ length (names_at tables.old.items table.0) }
     requires absent { named name.items (names_at tables.old.items table.0) ≡ None }
-    ensures ok { OnOk result (tables.new.items ≡ with_names tables.old.items table (λ names. insert names place (name.items, symbol))) }
+    ensures ok { OnOk result (tables.new.items
+        ≡ with_names tables.old.items table (λ names. insert names place (name.items, symbol))) }
     ensures err { OnErr result (tables.new.items ≡ tables.old.items) }
     ensures capacity { vec_capacity tables.new ≡ vec_capacity tables.old }
 {
@@ -68,7 +69,8 @@ pub(crate) fn remove_name(tables: &mut Vec<Option<Table>>, table: TableId, name:
 pub(crate) fn replace_what<K>(symbols: &mut Vec<Option<Symbol<K>>>, symbol: SymId, with: K) -> K
     requires { IsThere symbols.old.items symbol.0 }
     ensures old { option_map (λ y. y.what) (entry_at symbols.old.items symbol.0) ≡ Some result }
-    ensures new { symbols.new.items ≡ slice_set symbols.old.items symbol.0 (option_map (standing_for with) (entry_at symbols.old.items symbol.0)) }
+    ensures new { symbols.new.items ≡ slice_set symbols.old.items symbol.0
+        (option_map (standing_for with) (entry_at symbols.old.items symbol.0)) }
 {
     match &mut symbols[symbol.0 as usize] {
         Some(there) => mem::replace(&mut there.what, with),
@@ -79,7 +81,8 @@ pub(crate) fn replace_what<K>(symbols: &mut Vec<Option<Symbol<K>>>, symbol: SymI
 /// Takes out a symbol if it is there, and counts it.
 fn clear_one<K: Drop>(symbols: &mut Vec<Option<Symbol<K>>>, symbol: SymId) -> usize
     ensures left { symbols.new.items ≡ slice_set symbols.old.items symbol.0 None }
-    ensures count { count_by is_some symbols.new.items + result ≡ count_by is_some symbols.old.items }
+    ensures count { count_by is_some symbols.new.items + result
+        ≡ count_by is_some symbols.old.items }
     ensures one { result ≤ 1 }
 {
     match entry(symbols, symbol.0) {
@@ -93,7 +96,8 @@ fn clear_one<K: Drop>(symbols: &mut Vec<Option<Symbol<K>>>, symbol: SymId) -> us
 /// Takes out the symbols that are listed, and counts those that were there.
 fn clear<K: Drop>(symbols: &mut Vec<Option<Symbol<K>>>, names: &Names) -> usize
     ensures left { symbols.new.items ≡ cleared names.now symbols.old.items }
-    ensures count { count_by is_some symbols.new.items + result ≡ count_by is_some symbols.old.items }
+    ensures count { count_by is_some symbols.new.items + result
+        ≡ count_by is_some symbols.old.items }
 {
     let mut gone = 0;
     for place in 0..names.len() {
@@ -113,7 +117,8 @@ pub(crate) fn drop_scope<K: Drop>(
     requires { IsThere tables.old.items table.0 }
     ensures table { tables.new.items ≡ slice_set tables.old.items table.0 None }
     ensures left { symbols.new.items ≡ cleared (names_at tables.old.items table.0) symbols.old.items }
-    ensures count { count_by is_some symbols.new.items + result ≡ count_by is_some symbols.old.items }
+    ensures count { count_by is_some symbols.new.items + result
+        ≡ count_by is_some symbols.old.items }
 {
     let scope = take(tables, table.0);
     clear(symbols, &scope.names)

@@ -51,19 +51,22 @@ impl<K> Arena<K> {
 }
 
 impl<K: Drop> Arena<K> {
-    /// Declares a name in a table, last in its declaration order, and gives the symbol the next number.
+    /// Declares a name in a table, last in its declaration order. The symbol gets the next number.
     ///
     /// The answer is `Twice` where the table has the name, else `Full` where no number is left.
     pub fn declare(&mut self, table: TableId, name: &Name, what: K) -> Result<SymId, ArenaFault>
         requires { HasTable self.old table }
-        ensures { Declares self.old table name.now
-            (next_symbol self.old) (declared_in self.old table (length (names_in self.old table)) name.now what) self.new result }
+        ensures { let place = length (names_in self.old table) in
+            Declares self.old table name.now
+            (next_symbol self.old) (declared_in self.old table place name.now what)
+            self.new result }
     {
         let place = self.size(table);
         self.declare_at(table, place, name, what)
     }
 
-    /// Declares a name as `declare` does, at a place of the declaration order. Later symbols move up by one.
+    /// Declares a name as `declare` does, at a place of the declaration order. Later symbols move up
+    /// by one.
     pub fn declare_at(
         &mut self,
         table: TableId,
@@ -74,7 +77,8 @@ impl<K: Drop> Arena<K> {
         requires there { HasTable self.old table }
         requires within { place ≤ length (names_in self.old table) }
         ensures { Declares self.old table name.now
-            (next_symbol self.old) (declared_in self.old table place name.now what) self.new result }
+            (next_symbol self.old) (declared_in self.old table place name.now what)
+            self.new result }
     {
         self.admit(table, name)?;
         Ok(self.add(table, place, name, what)?)
@@ -84,7 +88,9 @@ impl<K: Drop> Arena<K> {
         requires there { HasTable self.old table }
         requires within { place ≤ length (names_in self.old table) }
         requires may { MayDeclare self.old table name.now }
-        ensures { Makes self.old (next_symbol self.old) (declared_in self.old table place name.now what) self.new result }
+        ensures { Makes self.old
+            (next_symbol self.old) (declared_in self.old table place name.now what)
+            self.new result }
     {
         let key = key_of(self.alloc, name)?;
         let own = Name::new(self.alloc, name.bytes())?;
@@ -101,8 +107,8 @@ impl<K: Drop> Arena<K> {
         Ok(symbol)
     }
 
-    /// Declares a symbol together with an empty table that it owns, whose parent is the table in which the symbol stands.
-    /// It is refused as `declare` is.
+    /// Declares a symbol together with an empty table that it owns, whose parent is the table in
+    /// which the symbol stands. It is refused as `declare` is.
     pub fn declare_owner(
         &mut self,
         table: TableId,
@@ -110,14 +116,18 @@ impl<K: Drop> Arena<K> {
         what: K,
     ) -> Result<(SymId, TableId), ArenaFault>
         requires { HasTable self.old table }
-        ensures { Declares self.old table name.now
-            (next_symbol self.old, next_table self.old) (owner_declared_in self.old table (length (names_in self.old table)) name.now what) self.new result }
+        ensures { let place = length (names_in self.old table) in
+            Declares self.old table name.now
+            (next_symbol self.old, next_table self.old)
+            (owner_declared_in self.old table place name.now what)
+            self.new result }
     {
         let place = self.size(table);
         self.declare_owner_at(table, place, name, what)
     }
 
-    /// Declares a symbol as `declare_owner` does, at a place of the declaration order. Later symbols move up by one.
+    /// Declares a symbol as `declare_owner` does, at a place of the declaration order. Later symbols
+    /// move up by one.
     pub fn declare_owner_at(
         &mut self,
         table: TableId,
@@ -128,7 +138,9 @@ impl<K: Drop> Arena<K> {
         requires there { HasTable self.old table }
         requires within { place ≤ length (names_in self.old table) }
         ensures { Declares self.old table name.now
-            (next_symbol self.old, next_table self.old) (owner_declared_in self.old table place name.now what) self.new result }
+            (next_symbol self.old, next_table self.old)
+            (owner_declared_in self.old table place name.now what)
+            self.new result }
     {
         self.admit(table, name)?;
         Ok(self.add_owner(table, place, name, what)?)
@@ -144,7 +156,10 @@ impl<K: Drop> Arena<K> {
         requires there { HasTable self.old table }
         requires within { place ≤ length (names_in self.old table) }
         requires may { MayDeclare self.old table name.now }
-        ensures { Makes self.old (next_symbol self.old, next_table self.old) (owner_declared_in self.old table place name.now what) self.new result }
+        ensures { Makes self.old
+            (next_symbol self.old, next_table self.old)
+            (owner_declared_in self.old table place name.now what)
+            self.new result }
     {
         let key = key_of(self.alloc, name)?;
         let own = Name::new(self.alloc, name.bytes())?;

@@ -9,8 +9,8 @@ use crate::table::{Symbol, drop_scope, remove_name};
 use lf_base::SymId;
 
 impl<K> Arena<K> {
-    /// Takes out a live symbol that owns no table, and hands back what it stood for. Its number is not given again, and
-    /// later symbols of its table move down by one.
+    /// Takes out a live symbol that owns no table, and hands back what it stood for. Its number is
+    /// not given again, and later symbols of its table move down by one.
     pub fn remove(&mut self, symbol: SymId) -> K
         requires live { IsLive self.old symbol }
         requires owns_none { owned_by self.old symbol ≡ None }
@@ -30,8 +30,9 @@ impl<K> Arena<K> {
 }
 
 impl<K: Drop> Arena<K> {
-    /// Takes out a live symbol with the table that it owns and the symbols in that table, none of which owns a table. It
-    /// hands back what the symbol stood for. None of the numbers is given again.
+    /// Takes out a live symbol with the table that it owns and the symbols in that table, none of
+    /// which owns a table. It hands back what the symbol stood for. None of the numbers is given
+    /// again.
     pub fn remove_owned(&mut self, symbol: SymId) -> K
         requires live { IsLive self.old symbol }
         requires owns { IsSome (owned_by self.old symbol) }

@@ -1,0 +1,9 @@
+pub mod ChangeLemmas
+pub mod ClearLemmas
+pub mod EntryLemmas
+pub mod LinkLemmas
+pub mod NameLemmas
+pub mod RemovalLemmas
+pub mod ReplaceLemmas
+pub mod Seen
+pub mod WayLemmas

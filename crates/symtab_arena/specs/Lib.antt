@@ -1,0 +1,7 @@
+pub mod Answers
+pub mod Changes
+pub mod Entries
+pub mod Links
+pub mod Names
+pub mod Scopes
+pub mod Tables

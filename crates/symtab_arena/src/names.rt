@@ -1,0 +1,95 @@
+ghost use Rattle.std.specs.Prelude.{◌≡◌, ◌≤◌, [], ◌∷◌, ◌++◌, length, insert, slice_get, None, OnOk, OnErr};
+ghost use Rattle.std.specs.Map.{remove_entry};
+ghost use Rattle.std.specs.Option.{option_map};
+ghost use Rattle.std.specs.Str.{bytes_eq};
+ghost use Rattle.symtab_arena.specs.Names.{named};
+
+use indexmap::IndexMap;
+use lf_base::{Memory, SymId};
+use std::alloc::Global;
+use std::marker::Model;
+
+/// The names of one table with their symbols, in declaration order. No name stands twice.
+#[derive(Drop)]
+pub struct Names {
+    entries: IndexMap<Vec<u8>, SymId>,
+}
+
+impl Model for Names {
+    ghost use Rattle.std.specs.Prelude.{List, ℕ, map};
+    ghost use Rattle.lf_base.specs.declared.id.SymId.{SymId};
+
+    ghost Value = { List (List ℕ × SymId) };
+
+    ghost view = { λ n. map (λ e. (e.0.items, e.1)) n.entries.entries };
+}
+
+impl Names {
+    /// No names. It takes no memory before the first insertion.
+    pub fn new(alloc: Global) -> Names
+        ensures { result ≡ [] }
+    {
+        Names {
+            entries: IndexMap::new(alloc),
+        }
+    }
+
+    /// How many there are.
+    pub fn len(&self) -> usize
+        ensures { result ≡ length self.now }
+    {
+        self.entries.len()
+    }
+
+    /// The symbol of a name.
+    pub fn find(&self, name: &[u8]) -> Option<SymId>
+        ensures { result ≡ named name.now self.now }
+    {
+        self.entries.get(name).copied()
+    }
+
+    /// The symbol at a place of the declaration order.
+    pub fn at(&self, place: usize) -> Option<SymId>
+        ensures { result ≡ option_map (λ e. e.1) (slice_get self.now place) }
+    {
+        match self.entries.get_index(place) {
+            Some((_, symbol)) => Some(*symbol),
+            None => None,
+        }
+    }
+
+    /// Puts a new name last.
+    fn push(&mut self, name: Vec<u8>, symbol: SymId) -> Result<(), Memory>
+        requires { named name.items self.old ≡ None }
+        ensures ok { OnOk result (self.new ≡ self.old ++ (name.items, symbol) ∷ []) }
+        ensures err { OnErr result (self.new ≡ self.old) }
+    {
+        match self.entries.insert(name, symbol) {
+            Ok(_) => {}
+            Err(_) => return Err(Memory),
+        }
+        Ok(())
+    }
+
+    /// Puts a new name at a place of the declaration order. Later ones move up by one.
+    pub fn insert(&mut self, place: usize, name: Vec<u8>, symbol: SymId) -> Result<(), Memory>
+        requires within { place ≤ length self.old }
+        requires absent { named name.items self.old ≡ None }
+        ensures ok { OnOk result (self.new ≡ insert self.old place (name.items, symbol)) }
+        ensures err { OnErr result (self.new ≡ self.old) }
+    {
+        let last = self.len();
+        self.push(name, symbol)?;
+        if place < last {
+            self.entries.move_index(last, place);
+        }
+        Ok(())
+    }
+
+    /// Takes a name out. Later ones move down by one.
+    pub fn remove(&mut self, name: &[u8])
+        ensures { self.new ≡ remove_entry (bytes_eq name.now) self.old }
+    {
+        let _ = self.entries.shift_remove(name);
+    }
+}

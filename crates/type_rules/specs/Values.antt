@@ -1,0 +1,48 @@
+-- Scalar values, and what an operation on values gives (ISO/IEC 1539-1:2018, 4.3 and 7.4).
+use Rattle.std.specs.Prelude.{ℕ, ℤ, pos, negsuc, ◌-◌, ◌^◌, ◌==◌, Bool, true, false, not, ◌&&◌, if◌then◌else◌, int_le, List, Option, Some, None, Result, Ok, Err}
+use Rattle.type_rules.specs.declared.trap.Trap.{Trap}
+use Rattle.type_rules.specs.declared.trap.Trap.TheVariants.{IntegerOverflow, DivisionByZero, SubscriptOutOfRange, SubstringOutOfRange, ShapeMismatch, ZeroStep, EndOfFile, LengthLimit, BadCharacterCode}
+use Rattle.type_rules.specs.declared.constant.Const.{Const}
+use Rattle.type_rules.specs.declared.constant.Const.TheVariants.{IntConst, LogConst, CharConst}
+
+-- An integer with its kind, which is its size in bytes; a logical; or characters, by their bytes.
+pub data Scalar : Type 0 where
+  Integer : (kind : ℕ) (value : ℤ) → Scalar
+  Logical : (truth : Bool) → Scalar
+  Characters : (bytes : List ℕ) → Scalar
+
+-- An operation gives a value or ends by a trap, where it has a rule for its operands.
+pub data Outcome (A : Type 0) : Type 0 where
+  Gives : (value : A) → Outcome A
+  Traps : (trap : Trap) → Outcome A
+  NoRule : Outcome A
+
+-- The greatest and the least integer of a kind.
+abbrev pub greatest : ℕ → ℤ
+greatest kind = if kind == 4 then pos 2147483647 else pos 9223372036854775807
+
+abbrev pub least : ℕ → ℤ
+least kind = if kind == 4 then negsuc 2147483647 else negsuc 9223372036854775807
+
+abbrev pub is_in_kind : ℕ → ℤ → Bool
+is_in_kind kind z = int_le (least kind) z && int_le z (greatest kind)
+
+-- An exact integer, or the trap of the operation that has none.
+abbrev pub Exact : Type 0
+Exact = Result ℤ Trap
+
+-- The exact result as an integer of this kind.
+abbrev pub fitted : ℕ → Exact → Outcome Scalar
+fitted kind (Ok z) = if is_in_kind kind z then Gives (Integer kind z) else Traps IntegerOverflow
+fitted kind (Err trap) = Traps trap
+
+-- The value of a constant, and the constant of a value.
+abbrev pub scalar_of : Const → Scalar
+scalar_of (IntConst kind value) = Integer kind value
+scalar_of (LogConst value) = Logical (not (value == 0))
+scalar_of (CharConst bytes) = Characters bytes
+
+abbrev pub constant_of : Scalar → Const
+constant_of (Integer kind value) = IntConst kind value
+constant_of (Logical truth) = LogConst (if truth then 1 else 0)
+constant_of (Characters bytes) = CharConst bytes

@@ -1,3 +1,4 @@
 pub mod Powers
 pub mod Tables
 pub mod Texts
+pub mod Shapes

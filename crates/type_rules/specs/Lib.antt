@@ -5,3 +5,5 @@ pub mod Characters
 pub mod Operations
 pub mod Folds
 pub mod Powers
+pub mod Types
+pub mod Matching

@@ -8,12 +8,16 @@ pub mod code;
 mod constant;
 mod folding;
 mod integer;
+mod matching;
 mod scalar;
 mod trap;
 mod ty;
+mod unifying;
 
 pub use code::{Intrinsic, Operator};
 pub use constant::{Const, Op, TypeFault};
 pub use folding::fold;
+pub use matching::{distinguishable, resolve_generic, same_type};
 pub use trap::Trap;
 pub use ty::{Dim, Elem, Len, Ty};
+pub use unifying::unify;

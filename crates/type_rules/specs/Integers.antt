@@ -1,5 +1,5 @@
 -- Operations on integers, exactly (ISO/IEC 1539-1:2018, 10.1.5.2 and 16.9: ABS, MOD, MODULO, SIGN).
-use Rattle.std.specs.Prelude.{◌≡◌, ℕ, zero, suc, ℤ, pos, negsuc, ◌*ℤ◌, neg_ℤ, ◌==◌, Bool, true, false, if◌then◌else◌, int_lt, int_div, int_rem, unsigned_abs, Ok, Err}
+use Rattle.std.specs.Prelude.{◌≡◌, ℕ, zero, suc, ℤ, pos, negsuc, ◌+ℤ◌, ◌*ℤ◌, ◌<ℤ◌, ◌≤ℤ◌, ◌<◌, neg_ℤ, ◌==◌, Bool, true, false, if◌then◌else◌, int_lt, int_div, int_rem, unsigned_abs, Ok, Err}
 use Rattle.std.specs.Int.{int_rem_euclid}
 use Rattle.type_rules.specs.Values.{Exact}
 use Rattle.type_rules.specs.declared.trap.Trap.TheVariants.{DivisionByZero}
@@ -36,3 +36,19 @@ magnitude a = pos (unsigned_abs a)
 -- The magnitude of the first with the sign of the second, where zero counts as positive.
 abbrev pub sign : ℤ → ℤ → ℤ
 sign a b = if int_lt b (pos 0) then neg_ℤ (magnitude a) else magnitude a
+
+-- The defining equation of MODULO: the first is a multiple of the second and the result, which has the sign of the second
+-- and is below it in magnitude.
+pub record IsModulo (a b r : ℤ) : Type 0 where
+  pub factor : ℤ
+  pub equation : a ≡ factor *ℤ b +ℤ r
+  pub of_positive : pos 0 <ℤ b → (pos 0 ≤ℤ r) × (r <ℤ b)
+  pub of_negative : b <ℤ pos 0 → (b <ℤ r) × (r ≤ℤ pos 0)
+
+-- The quotient and what is left: the quotient is truncated, since what is left has the sign of the first and is below the
+-- second in magnitude.
+pub record IsDivision (a b q r : ℤ) : Type 0 where
+  pub equation : q *ℤ b +ℤ r ≡ a
+  pub smaller : unsigned_abs r < unsigned_abs b
+  pub of_positive : pos 0 ≤ℤ a → pos 0 ≤ℤ r
+  pub of_negative : a ≤ℤ pos 0 → r ≤ℤ pos 0

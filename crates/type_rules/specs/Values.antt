@@ -1,5 +1,5 @@
 -- Scalar values, and what an operation on values gives (ISO/IEC 1539-1:2018, 4.3 and 7.4).
-use Rattle.std.specs.Prelude.{ℕ, ℤ, pos, negsuc, ◌-◌, ◌^◌, ◌==◌, Bool, true, false, not, ◌&&◌, if◌then◌else◌, int_le, List, Option, Some, None, Result, Ok, Err}
+use Rattle.std.specs.Prelude.{◌≡◌, ℕ, ℤ, pos, negsuc, ◌==◌, Bool, true, false, not, ◌&&◌, if◌then◌else◌, int_le, List, Option, Some, None, Result, Ok, Err}
 use Rattle.type_rules.specs.declared.trap.Trap.{Trap}
 use Rattle.type_rules.specs.declared.trap.Trap.TheVariants.{IntegerOverflow, DivisionByZero, SubscriptOutOfRange, SubstringOutOfRange, ShapeMismatch, ZeroStep, EndOfFile, LengthLimit, BadCharacterCode}
 use Rattle.type_rules.specs.declared.constant.Const.{Const}
@@ -46,3 +46,10 @@ abbrev pub constant_of : Scalar → Const
 constant_of (Integer kind value) = IntConst kind value
 constant_of (Logical truth) = LogConst (if truth then 1 else 0)
 constant_of (Characters bytes) = CharConst bytes
+
+-- A value that is an exact integer in its kind.
+pub record IsExact (kind : ℕ) (exact : Exact) (value : Scalar) : Type 0 where
+  pub number : ℤ
+  pub is : exact ≡ Ok number
+  pub as_value : value ≡ Integer kind number
+  pub in_kind : is_in_kind kind number ≡ true

@@ -8,6 +8,7 @@ pub mod code;
 mod constant;
 mod folding;
 mod integer;
+pub mod law;
 mod matching;
 mod scalar;
 mod trap;

@@ -1,0 +1,31 @@
+//! Laws of the definitions, for the crates above. None of these functions does anything.
+ghost use Rattle.std.specs.Prelude.{◌≡◌, ℕ, ℤ, Ok, ◌+ℤ◌, ◌*ℤ◌, List, true};
+ghost use Rattle.type_rules.specs.Values.{Exact, Scalar, Gives, fitted, IsExact};
+ghost use Rattle.type_rules.specs.Matching.{matches, are_distinguishable};
+ghost use Rattle.type_rules.specs.declared.ty.Ty.{Ty};
+ghost use Rattle.type_rules.specs.Integers.{quotient, remainder, modulo, IsModulo, IsDivision};
+
+/// The defining equation of `modulo`.
+pub fn modulo_is()
+    ensures { (a b r : ℤ) → modulo a b ≡ Ok r → IsModulo a b r }
+{}
+
+/// The defining equation of division and `mod`.
+pub fn division_is()
+    ensures { (a b q r : ℤ) → quotient a b ≡ Ok q → remainder a b ≡ Ok r → IsDivision a b q r }
+{}
+
+/// `modulo` and `mod` differ by a multiple of the divisor.
+pub fn modulo_and_mod()
+    ensures { (a b m r : ℤ) → remainder a b ≡ Ok m → modulo a b ≡ Ok r → (k : ℤ) × (r ≡ k *ℤ b +ℤ m) }
+{}
+
+/// Two specific procedures that are distinguishable never match the same arguments.
+pub fn one_specific()
+    ensures { (a b args : List Ty) → are_distinguishable a b ≡ true → matches a args ≡ true → matches b args ≡ true → ⊥ }
+{}
+
+/// An integer result that fits its kind is the exact one.
+pub fn fits_exactly()
+    ensures { (kind : ℕ) (exact : Exact) (value : Scalar) → fitted kind exact ≡ Gives value → IsExact kind exact value }
+{}

@@ -5,3 +5,4 @@ pub mod Shapes
 pub mod Divisions
 pub mod Matches
 pub mod Fits
+pub mod Arrays

@@ -7,3 +7,6 @@ pub mod Folds
 pub mod Powers
 pub mod Types
 pub mod Matching
+pub mod Store
+pub mod Counts
+pub mod Arrays

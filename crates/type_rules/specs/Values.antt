@@ -17,6 +17,12 @@ pub data Outcome (A : Type 0) : Type 0 where
   Traps : (trap : Trap) → Outcome A
   NoRule : Outcome A
 
+-- Goes on with the value.
+abbrev pub and_then : {A B : Type 0} → Outcome A → (A → Outcome B) → Outcome B
+and_then (Gives value) go = go value
+and_then (Traps trap) go = Traps trap
+and_then NoRule go = NoRule
+
 -- The greatest and the least integer of a kind.
 abbrev pub greatest : ℕ → ℤ
 greatest kind = if kind == 4 then pos 2147483647 else pos 9223372036854775807

@@ -1,5 +1,9 @@
 //! Laws of the definitions, for the crates above. None of these functions does anything.
-ghost use Rattle.std.specs.Prelude.{◌≡◌, ℕ, ℤ, Ok, ◌+ℤ◌, ◌*ℤ◌, List, true};
+ghost use Rattle.std.specs.Prelude.{◌≡◌, ℕ, ℤ, Ok, ◌+ℤ◌, ◌*ℤ◌, List, map, true};
+ghost use Rattle.type_rules.specs.Store.{Single};
+ghost use Rattle.type_rules.specs.Arrays.{operation_on, single, OfEmpty};
+ghost use Rattle.type_rules.specs.Operations.{operation};
+ghost use Rattle.type_rules.specs.declared.constant.Op.{Op};
 ghost use Rattle.type_rules.specs.Values.{Exact, Scalar, Gives, fitted, IsExact};
 ghost use Rattle.type_rules.specs.Matching.{matches, are_distinguishable};
 ghost use Rattle.type_rules.specs.declared.ty.Ty.{Ty};
@@ -28,4 +32,14 @@ pub fn one_specific()
 /// An integer result that fits its kind is the exact one.
 pub fn fits_exactly()
     ensures { (kind : ℕ) (exact : Exact) (value : Scalar) → fitted kind exact ≡ Gives value → IsExact kind exact value }
+{}
+
+/// On scalars the table on values is the table on scalars.
+pub fn values_of_scalars()
+    ensures { (op : Op) (args : List Scalar) → operation_on op (map Single args) ≡ single (operation op args) }
+{}
+
+/// What the reductions give for an array without elements.
+pub fn reductions_of_nothing()
+    ensures { (kind : ℕ) → OfEmpty kind }
 {}

@@ -1,5 +1,9 @@
-//! Tests of the compiler's parts, by worked examples.
+//! Tests that cross crates: worked examples, with their values from the standard. There is no other code here.
 #![tactic(auto)]
 
 #[cfg(test)]
 mod arena;
+#[cfg(test)]
+mod operations;
+#[cfg(test)]
+mod types;

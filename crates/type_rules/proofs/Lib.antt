@@ -1,0 +1,13 @@
+pub mod Powers
+pub mod Tables
+pub mod Texts
+pub mod Shapes
+pub mod Divisions
+pub mod Matches
+pub mod Fits
+pub mod Arrays
+pub mod Places
+pub mod Values
+pub mod TextLaws
+pub mod Resolution
+pub mod Instances

@@ -1,0 +1,9 @@
+use Rattle.std.proofs.Common.{◌≡◌, drop, map}
+use Rattle.std.specs.Int.{int_min}
+use Rattle.type_rules.specs.Values.{scalar_of}
+use Rattle.type_rules.specs.Operations.{extreme}
+use Rattle.type_rules.proofs.folding.least_of.Given as goal
+
+abbrev pub invariant-loop-constant : goal.invariant-loop-constant
+invariant-loop-constant l =
+    extreme int_min l.kind l.least (map scalar_of (drop l.constant-index l.rest)) ≡ extreme int_min l.fn.kind l.fn.value (map scalar_of l.rest)

@@ -1,0 +1,12 @@
+pub mod Values
+pub mod Codes
+pub mod Integers
+pub mod Characters
+pub mod Operations
+pub mod Folds
+pub mod Powers
+pub mod Types
+pub mod Matching
+pub mod Store
+pub mod Counts
+pub mod Arrays

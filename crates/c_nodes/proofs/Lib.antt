@@ -7,6 +7,7 @@ pub mod CRuns
 pub mod Digits
 pub mod ExprInduction
 pub mod Gap
+pub mod GrammarShapes
 pub mod Ints
 pub mod Multiply
 pub mod PreludeTexts

@@ -1,18 +1,30 @@
 //! Laws of the definitions: each is the contract of a function that does nothing.
 
-ghost use Rattle.std.specs.Prelude.{◌≡◌, ℕ, List, [], ◌∷◌, codes, pos, negsuc, ◌+ℤ◌, ◌-ℤ◌, ◌*ℤ◌, None};
+ghost use Rattle.std.specs.Prelude.{◌≡◌, ℕ, List, [], ◌∷◌, ◌++◌, IsTrue, codes, pos, negsuc, ◌+ℤ◌, ◌-ℤ◌, ◌*ℤ◌, None};
 ghost use Rattle.std.specs.Fmt.{signed_decimal};
+ghost use Rattle.std.specs.List.{list_all};
+ghost use Rattle.lf_base.specs.Contents.{joined};
 ghost use Rattle.lf_base.specs.Outcome.{Ended, written};
 ghost use Rattle.lf_base.specs.Near.{IsMonotone};
 ghost use Rattle.c_nodes.specs.declared.tree.CFile.{CFile};
+ghost use Rattle.c_nodes.specs.declared.tree.CItem.{CItem};
 ghost use Rattle.c_nodes.specs.CValues.{least32, greatest32, least64, greatest64};
 ghost use Rattle.c_nodes.specs.CMeaning.{CMeaning};
-ghost use Rattle.c_nodes.specs.Grammar.{Spells};
+ghost use Rattle.c_nodes.specs.Grammar.{is_item, is_external, file_with, IsGrammatical, Spells};
+ghost use Rattle.c_nodes.specs.PreludeText.{prelude_text};
+ghost use Rattle.c_nodes.specs.Text.{item_texts, file_text};
 ghost use Rattle.c_nodes.specs.HelperLaws.{Traps, TrapsOver, Fits, Combines, WritesGap, WritesInt, trapped, answer32, answer64, AtEnd, gap};
 
 /// A C file has at most one spelling.
 pub fn one_spelling()
     ensures { (file : CFile) (a b : List ℕ) → Spells a file → Spells b file → a ≡ b }
+{}
+
+/// The prelude with external functions behind it is a file, and its text is that of the prelude with theirs
+/// behind it.
+pub fn prelude_goes_on()
+    ensures grammatical { (rest : List CItem) → IsTrue (list_all is_item rest) → IsTrue (list_all is_external rest) → IsGrammatical (file_with rest) }
+    ensures text { (rest : List CItem) → file_text (file_with rest) ≡ prelude_text ++ joined (item_texts rest) }
 {}
 
 /// Larger bounds keep the end of a C program with its output and its status, and never shorten what it

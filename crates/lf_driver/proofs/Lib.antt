@@ -5,3 +5,7 @@ pub mod Tellings
 pub mod Tokens
 pub mod Values
 pub mod Within
+pub mod Agrees
+pub mod Evaluates
+pub mod ProgramNames
+pub mod Temporaries

@@ -6,3 +6,4 @@ pub mod Emit
 pub mod Ends
 pub mod Verdict
 pub mod Compile
+pub mod Fortran

@@ -4,6 +4,7 @@
 mod command;
 mod compile;
 mod driver;
+pub mod law;
 mod lower;
 mod outcome;
 mod program;

@@ -11,7 +11,7 @@ use Rattle.c_nodes.specs.declared.tree.CExpr.{CExpr}
 use Rattle.c_nodes.specs.declared.tree.CExpr.TheVariants.{Variable, Index, Constant, Greatest, Least, Paren, Negate, Not, Binary, Cast, ToInt, Address, Literal}
 use Rattle.c_nodes.specs.declared.tree.CStmt.{CStmt}
 use Rattle.c_nodes.specs.declared.tree.CStmt.TheVariants.{Declare, DeclareArray, DeclareValue, DeclarePointer, DeclareCall, Assign, AssignCall, Call, Return, ReturnValue, ReturnCall, Block, While, If, IfElse}
-use Rattle.c_nodes.specs.Text.{operator_text, constant_text, literal_text, subscript_text, cast_text, expr_layer, expr_text, declared_text, pointer_text, call_text, stored_text, received_text, array_text, returned_text, returned_call_text, opened_text, closed_text, else_text, stmt_layer, stmt_text, stmt_texts}
+use Rattle.c_nodes.specs.Text.{operator_text, constant_text, literal_text, subscript_text, cast_text, expr_layer, expr_text, array_text, returned_text, returned_call_text, plain_text, initialized_text, initialized_pointer_text, initialized_by_text, assigned_text, assigned_by_text, called_text, opened_text, closed_text, guarded_text, else_text, stmt_layer, stmt_text, stmt_texts}
 use Rattle.c_nodes.proofs.ExprInduction as expressions
 use Rattle.c_nodes.proofs.StmtInduction as statements
 
@@ -54,28 +54,28 @@ expr_text-Address place = expressions.fold-Address (List ℕ) expr_layer place
 pub expr_text-Literal : (bytes : List ℕ) → expr_text (Literal bytes) ≡ literal_text bytes
 expr_text-Literal bytes = expressions.fold-Literal (List ℕ) expr_layer bytes
 
-pub stmt_text-Declare : (kind : CType) (name : Name) → stmt_text (Declare kind name) ≡ joined (declared_text kind name ∷ codes ";\n" ∷ [])
+pub stmt_text-Declare : (kind : CType) (name : Name) → stmt_text (Declare kind name) ≡ plain_text kind name
 stmt_text-Declare kind name = statements.fold-Declare (List ℕ) stmt_layer kind name
 
 pub stmt_text-DeclareArray : (kind : CType) (name : Name) (size : CExpr) → stmt_text (DeclareArray kind name size) ≡ array_text kind name size
 stmt_text-DeclareArray kind name size = statements.fold-DeclareArray (List ℕ) stmt_layer kind name size
 
-pub stmt_text-DeclareValue : (kind : CType) (name : Name) (value : CExpr) → stmt_text (DeclareValue kind name value) ≡ joined (declared_text kind name ∷ stored_text value ∷ [])
+pub stmt_text-DeclareValue : (kind : CType) (name : Name) (value : CExpr) → stmt_text (DeclareValue kind name value) ≡ initialized_text kind name value
 stmt_text-DeclareValue kind name value = statements.fold-DeclareValue (List ℕ) stmt_layer kind name value
 
-pub stmt_text-DeclarePointer : (kind : CType) (name : Name) (value : CExpr) → stmt_text (DeclarePointer kind name value) ≡ joined (pointer_text kind name ∷ stored_text value ∷ [])
+pub stmt_text-DeclarePointer : (kind : CType) (name : Name) (value : CExpr) → stmt_text (DeclarePointer kind name value) ≡ initialized_pointer_text kind name value
 stmt_text-DeclarePointer kind name value = statements.fold-DeclarePointer (List ℕ) stmt_layer kind name value
 
-pub stmt_text-DeclareCall : (kind : CType) (name : Name) (callee : Name) (arguments : List CExpr) → stmt_text (DeclareCall kind name callee arguments) ≡ joined (declared_text kind name ∷ received_text callee arguments ∷ [])
+pub stmt_text-DeclareCall : (kind : CType) (name : Name) (callee : Name) (arguments : List CExpr) → stmt_text (DeclareCall kind name callee arguments) ≡ initialized_by_text kind name callee arguments
 stmt_text-DeclareCall kind name callee arguments = statements.fold-DeclareCall (List ℕ) stmt_layer kind name callee arguments
 
-pub stmt_text-Assign : (target : CExpr) (value : CExpr) → stmt_text (Assign target value) ≡ joined (expr_text target ∷ stored_text value ∷ [])
+pub stmt_text-Assign : (target : CExpr) (value : CExpr) → stmt_text (Assign target value) ≡ assigned_text target value
 stmt_text-Assign target value = statements.fold-Assign (List ℕ) stmt_layer target value
 
-pub stmt_text-AssignCall : (target : CExpr) (callee : Name) (arguments : List CExpr) → stmt_text (AssignCall target callee arguments) ≡ joined (expr_text target ∷ received_text callee arguments ∷ [])
+pub stmt_text-AssignCall : (target : CExpr) (callee : Name) (arguments : List CExpr) → stmt_text (AssignCall target callee arguments) ≡ assigned_by_text target callee arguments
 stmt_text-AssignCall target callee arguments = statements.fold-AssignCall (List ℕ) stmt_layer target callee arguments
 
-pub stmt_text-Call : (callee : Name) (arguments : List CExpr) → stmt_text (Call callee arguments) ≡ joined (call_text callee arguments ∷ codes ";\n" ∷ [])
+pub stmt_text-Call : (callee : Name) (arguments : List CExpr) → stmt_text (Call callee arguments) ≡ called_text callee arguments
 stmt_text-Call callee arguments = statements.fold-Call (List ℕ) stmt_layer callee arguments
 
 pub stmt_text-Return : stmt_text Return ≡ codes "return;\n"
@@ -90,10 +90,10 @@ stmt_text-ReturnCall callee arguments = statements.fold-ReturnCall (List ℕ) st
 pub stmt_text-Block : (body : List CStmt) → stmt_text (Block body) ≡ joined (codes "{\n" ∷ closed_text (stmt_texts body) ∷ [])
 stmt_text-Block body = statements.fold-Block (List ℕ) stmt_layer body
 
-pub stmt_text-While : (test : CExpr) (body : List CStmt) → stmt_text (While test body) ≡ joined (opened_text (codes "while (") test ∷ closed_text (stmt_texts body) ∷ [])
+pub stmt_text-While : (test : CExpr) (body : List CStmt) → stmt_text (While test body) ≡ guarded_text (codes "while (") test (stmt_texts body)
 stmt_text-While test body = statements.fold-While (List ℕ) stmt_layer test body
 
-pub stmt_text-If : (test : CExpr) (then_body : List CStmt) → stmt_text (If test then_body) ≡ joined (opened_text (codes "if (") test ∷ closed_text (stmt_texts then_body) ∷ [])
+pub stmt_text-If : (test : CExpr) (then_body : List CStmt) → stmt_text (If test then_body) ≡ guarded_text (codes "if (") test (stmt_texts then_body)
 stmt_text-If test then_body = statements.fold-If (List ℕ) stmt_layer test then_body
 
 pub stmt_text-IfElse : (test : CExpr) (then_body : List CStmt) (else_body : List CStmt) → stmt_text (IfElse test then_body else_body) ≡ joined (opened_text (codes "if (") test ∷ joined (stmt_texts then_body) ∷ else_text (stmt_texts else_body) ∷ [])

@@ -136,6 +136,27 @@ returned_text value = joined (codes "return " ∷ expr_text value ∷ codes ";\n
 abbrev pub returned_call_text : List ℕ → List CExpr → List ℕ
 returned_call_text callee arguments = joined (codes "return " ∷ call_text callee arguments ∷ codes ";\n" ∷ [])
 
+abbrev pub plain_text : CType → List ℕ → List ℕ
+plain_text kind name = joined (declared_text kind name ∷ codes ";\n" ∷ [])
+
+abbrev pub initialized_text : CType → List ℕ → CExpr → List ℕ
+initialized_text kind name value = joined (declared_text kind name ∷ stored_text value ∷ [])
+
+abbrev pub initialized_pointer_text : CType → List ℕ → CExpr → List ℕ
+initialized_pointer_text kind name value = joined (pointer_text kind name ∷ stored_text value ∷ [])
+
+abbrev pub initialized_by_text : CType → List ℕ → List ℕ → List CExpr → List ℕ
+initialized_by_text kind name callee arguments = joined (declared_text kind name ∷ received_text callee arguments ∷ [])
+
+abbrev pub assigned_text : CExpr → CExpr → List ℕ
+assigned_text target value = joined (expr_text target ∷ stored_text value ∷ [])
+
+abbrev pub assigned_by_text : CExpr → List ℕ → List CExpr → List ℕ
+assigned_by_text target callee arguments = joined (expr_text target ∷ received_text callee arguments ∷ [])
+
+abbrev pub called_text : List ℕ → List CExpr → List ℕ
+called_text callee arguments = joined (call_text callee arguments ∷ codes ";\n" ∷ [])
+
 -- a word, a condition behind it, and the brace that opens a block
 abbrev pub opened_text : List ℕ → CExpr → List ℕ
 opened_text word test = joined (word ∷ expr_text test ∷ codes ") {\n" ∷ [])
@@ -144,25 +165,29 @@ opened_text word test = joined (word ∷ expr_text test ∷ codes ") {\n" ∷ []
 abbrev pub closed_text : List (List ℕ) → List ℕ
 closed_text body = joined (joined body ∷ codes "}\n" ∷ [])
 
+-- a block behind a word and a condition
+abbrev pub guarded_text : List ℕ → CExpr → List (List ℕ) → List ℕ
+guarded_text word test body = joined (opened_text word test ∷ closed_text body ∷ [])
+
 abbrev pub else_text : List (List ℕ) → List ℕ
 else_text body = joined (codes "} else {\n" ∷ closed_text body ∷ [])
 
 -- one shape of a statement, with the texts of the statements in it
 abbrev pub stmt_layer : CStmt-F (List ℕ) → List ℕ
-stmt_layer (CStmt-F.Declare kind name) = joined (declared_text kind name ∷ codes ";\n" ∷ [])
+stmt_layer (CStmt-F.Declare kind name) = plain_text kind name
 stmt_layer (CStmt-F.DeclareArray kind name size) = array_text kind name size
-stmt_layer (CStmt-F.DeclareValue kind name value) = joined (declared_text kind name ∷ stored_text value ∷ [])
-stmt_layer (CStmt-F.DeclarePointer kind name value) = joined (pointer_text kind name ∷ stored_text value ∷ [])
-stmt_layer (CStmt-F.DeclareCall kind name callee arguments) = joined (declared_text kind name ∷ received_text callee arguments ∷ [])
-stmt_layer (CStmt-F.Assign target value) = joined (expr_text target ∷ stored_text value ∷ [])
-stmt_layer (CStmt-F.AssignCall target callee arguments) = joined (expr_text target ∷ received_text callee arguments ∷ [])
-stmt_layer (CStmt-F.Call callee arguments) = joined (call_text callee arguments ∷ codes ";\n" ∷ [])
+stmt_layer (CStmt-F.DeclareValue kind name value) = initialized_text kind name value
+stmt_layer (CStmt-F.DeclarePointer kind name value) = initialized_pointer_text kind name value
+stmt_layer (CStmt-F.DeclareCall kind name callee arguments) = initialized_by_text kind name callee arguments
+stmt_layer (CStmt-F.Assign target value) = assigned_text target value
+stmt_layer (CStmt-F.AssignCall target callee arguments) = assigned_by_text target callee arguments
+stmt_layer (CStmt-F.Call callee arguments) = called_text callee arguments
 stmt_layer CStmt-F.Return = codes "return;\n"
 stmt_layer (CStmt-F.ReturnValue value) = returned_text value
 stmt_layer (CStmt-F.ReturnCall callee arguments) = returned_call_text callee arguments
 stmt_layer (CStmt-F.Block body) = joined (codes "{\n" ∷ closed_text body ∷ [])
-stmt_layer (CStmt-F.While test body) = joined (opened_text (codes "while (") test ∷ closed_text body ∷ [])
-stmt_layer (CStmt-F.If test then_body) = joined (opened_text (codes "if (") test ∷ closed_text then_body ∷ [])
+stmt_layer (CStmt-F.While test body) = guarded_text (codes "while (") test body
+stmt_layer (CStmt-F.If test then_body) = guarded_text (codes "if (") test then_body
 stmt_layer (CStmt-F.IfElse test then_body else_body) = joined (opened_text (codes "if (") test ∷ joined then_body ∷ else_text else_body ∷ [])
 
 abbrev pub stmt_text : CStmt → List ℕ

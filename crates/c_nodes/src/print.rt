@@ -6,7 +6,7 @@ ghost use Rattle.std.specs.Fmt.{decimal};
 ghost use Rattle.lf_base.specs.Causes.{HasCause};
 ghost use Rattle.lf_base.specs.Contents.{Appends, AppendsPart, joined};
 ghost use Rattle.lf_base.specs.Puts.{Puts, Causes};
-ghost use Rattle.c_nodes.specs.Text.{type_text, result_text, operator_text, wide_text, constant_text, byte_text, byte_texts, literal_text, behind_comma, behind_commas, listed, subscript_text, cast_text, expr_text, expr_texts, declared_text, pointer_text, call_text, stored_text, received_text, array_text, returned_text, returned_call_text, opened_text, closed_text, else_text, stmt_text, stmt_texts, parameter_text, parameter_texts, enclosed_text, parameters_text, head_text, static_text, item_text, item_texts, file_text};
+ghost use Rattle.c_nodes.specs.Text.{type_text, result_text, operator_text, wide_text, constant_text, byte_text, byte_texts, literal_text, behind_comma, behind_commas, listed, subscript_text, cast_text, expr_text, expr_texts, declared_text, pointer_text, call_text, stored_text, received_text, array_text, returned_text, returned_call_text, plain_text, initialized_text, initialized_pointer_text, initialized_by_text, assigned_text, assigned_by_text, called_text, opened_text, closed_text, guarded_text, else_text, stmt_text, stmt_texts, parameter_text, parameter_texts, enclosed_text, parameters_text, head_text, static_text, item_text, item_texts, file_text};
 
 use crate::tree::{CBinary, CExpr, CFile, CItem, CParameter, CResult, CStmt, CType};
 use itoa::Buffer;
@@ -370,6 +370,101 @@ fn put_opened<O: Sink>(before: Ended, out: &mut O, word: &[u8], test: &CExpr) ->
     put(ended, out, b") {\n")
 }
 
+#[tactic(auto, using(lf_base::proofs::Chains::chains))]
+fn put_plain<O: Sink>(before: Ended, out: &mut O, kind: &CType, name: &Name) -> Ended
+    ensures text { Puts before result (O.contents out.old) (O.contents out.new) (plain_text kind.now name.now) }
+    ensures cause { Causes before result (O.faults out.old) (O.faults out.new) }
+    ensures keeps { O.keeps out.old out.new }
+{
+    let ended = put_declared(before, out, kind, name);
+    put(ended, out, b";\n")
+}
+
+#[tactic(auto, using(lf_base::proofs::Chains::chains))]
+fn put_object<O: Sink>(
+    before: Ended,
+    out: &mut O,
+    kind: &CType,
+    name: &Name,
+    value: &CExpr,
+) -> Ended
+    ensures text { Puts before result (O.contents out.old) (O.contents out.new) (initialized_text kind.now name.now value.now) }
+    ensures cause { Causes before result (O.faults out.old) (O.faults out.new) }
+    ensures keeps { O.keeps out.old out.new }
+{
+    let ended = put_declared(before, out, kind, name);
+    put_stored(ended, out, value)
+}
+
+#[tactic(auto, using(lf_base::proofs::Chains::chains))]
+fn put_pointed<O: Sink>(
+    before: Ended,
+    out: &mut O,
+    kind: &CType,
+    name: &Name,
+    value: &CExpr,
+) -> Ended
+    ensures text { Puts before result (O.contents out.old) (O.contents out.new) (initialized_pointer_text kind.now name.now value.now) }
+    ensures cause { Causes before result (O.faults out.old) (O.faults out.new) }
+    ensures keeps { O.keeps out.old out.new }
+{
+    let ended = put_pointer(before, out, kind, name);
+    put_stored(ended, out, value)
+}
+
+#[tactic(auto, using(lf_base::proofs::Chains::chains))]
+fn put_received_object<O: Sink>(
+    before: Ended,
+    out: &mut O,
+    kind: &CType,
+    name: &Name,
+    callee: &Name,
+    arguments: &[CExpr],
+) -> Ended
+    ensures text { Puts before result (O.contents out.old) (O.contents out.new) (initialized_by_text kind.now name.now callee.now arguments.now) }
+    ensures cause { Causes before result (O.faults out.old) (O.faults out.new) }
+    ensures keeps { O.keeps out.old out.new }
+{
+    let ended = put_declared(before, out, kind, name);
+    put_received(ended, out, callee, arguments)
+}
+
+#[tactic(auto, using(lf_base::proofs::Chains::chains))]
+fn put_assigned<O: Sink>(before: Ended, out: &mut O, target: &CExpr, value: &CExpr) -> Ended
+    ensures text { Puts before result (O.contents out.old) (O.contents out.new) (assigned_text target.now value.now) }
+    ensures cause { Causes before result (O.faults out.old) (O.faults out.new) }
+    ensures keeps { O.keeps out.old out.new }
+{
+    let ended = put_expr(before, out, target);
+    put_stored(ended, out, value)
+}
+
+#[tactic(auto, using(lf_base::proofs::Chains::chains))]
+fn put_assigned_by<O: Sink>(
+    before: Ended,
+    out: &mut O,
+    target: &CExpr,
+    callee: &Name,
+    arguments: &[CExpr],
+) -> Ended
+    ensures text { Puts before result (O.contents out.old) (O.contents out.new) (assigned_by_text target.now callee.now arguments.now) }
+    ensures cause { Causes before result (O.faults out.old) (O.faults out.new) }
+    ensures keeps { O.keeps out.old out.new }
+{
+    let ended = put_expr(before, out, target);
+    put_received(ended, out, callee, arguments)
+}
+
+#[tactic(auto, using(lf_base::proofs::Chains::chains))]
+fn put_called<O: Sink>(before: Ended, out: &mut O, callee: &Name, arguments: &[CExpr]) -> Ended
+    ensures text { Puts before result (O.contents out.old) (O.contents out.new) (called_text callee.now arguments.now) }
+    ensures cause { Causes before result (O.faults out.old) (O.faults out.new) }
+    ensures keeps { O.keeps out.old out.new }
+{
+    let ended = put_call(before, out, callee, arguments);
+    put(ended, out, b";\n")
+}
+
 #[cycle(stmt)]
 #[tactic(auto, using(crate::proofs::Texts::texts))]
 fn put_stmt<O: Sink>(before: Ended, out: &mut O, stmt: &CStmt) -> Ended
@@ -378,49 +473,23 @@ fn put_stmt<O: Sink>(before: Ended, out: &mut O, stmt: &CStmt) -> Ended
     ensures keeps { O.keeps out.old out.new }
 {
     match stmt {
-        CStmt::Declare { kind, name } => put(put_declared(before, out, kind, name), out, b";\n"),
+        CStmt::Declare { kind, name } => put_plain(before, out, kind, name),
         CStmt::DeclareArray { kind, name, size } => put_array(before, out, kind, name, size),
-        CStmt::DeclareValue { kind, name, value } => put_stored(
-            put_declared(before, out, kind, name),
-            out,
-            value,
-        ),
-        CStmt::DeclarePointer { kind, name, value } => put_stored(
-            put_pointer(before, out, kind, name),
-            out,
-            value,
-        ),
+        CStmt::DeclareValue { kind, name, value } => put_object(before, out, kind, name, value),
+        CStmt::DeclarePointer { kind, name, value } => put_pointed(before, out, kind, name, value),
         CStmt::DeclareCall {
             kind,
             name,
             callee,
             arguments,
-        } => {
-            put_received(
-                put_declared(before, out, kind, name),
-                out,
-                callee,
-                arguments.as_slice(),
-            )
-        }
-        CStmt::Assign { target, value } => put_stored(put_expr(before, out, target), out, value),
+        } => put_received_object(before, out, kind, name, callee, arguments.as_slice()),
+        CStmt::Assign { target, value } => put_assigned(before, out, target, value),
         CStmt::AssignCall {
             target,
             callee,
             arguments,
-        } => {
-            put_received(
-                put_expr(before, out, target),
-                out,
-                callee,
-                arguments.as_slice(),
-            )
-        }
-        CStmt::Call { callee, arguments } => put(
-            put_call(before, out, callee, arguments.as_slice()),
-            out,
-            b";\n",
-        ),
+        } => put_assigned_by(before, out, target, callee, arguments.as_slice()),
+        CStmt::Call { callee, arguments } => put_called(before, out, callee, arguments.as_slice()),
         CStmt::Return => put(before, out, b"return;\n"),
         CStmt::ReturnValue { value } => put_returned(before, out, value),
         CStmt::ReturnCall { callee, arguments } => put_returned_call(
@@ -430,15 +499,13 @@ fn put_stmt<O: Sink>(before: Ended, out: &mut O, stmt: &CStmt) -> Ended
             arguments.as_slice(),
         ),
         CStmt::Block { body } => put_closed(put(before, out, b"{\n"), out, body.as_slice()),
-        CStmt::While { test, body } => put_closed(
-            put_opened(before, out, b"while (", test),
-            out,
-            body.as_slice(),
-        ),
-        CStmt::If { test, then_body } => put_closed(
-            put_opened(before, out, b"if (", test),
+        CStmt::While { test, body } => put_block(before, out, body.as_slice(), b"while (", test),
+        CStmt::If { test, then_body } => put_block(
+            before,
             out,
             then_body.as_slice(),
+            b"if (",
+            test,
         ),
         CStmt::IfElse {
             test,
@@ -450,6 +517,23 @@ fn put_stmt<O: Sink>(before: Ended, out: &mut O, stmt: &CStmt) -> Ended
             put_else(ended, out, else_body.as_slice())
         }
     }
+}
+
+#[cycle(stmt)]
+#[tactic(auto, using(lf_base::proofs::Chains::chains))]
+fn put_block<O: Sink>(
+    before: Ended,
+    out: &mut O,
+    body: &[CStmt],
+    word: &[u8],
+    test: &CExpr,
+) -> Ended
+    ensures text { Puts before result (O.contents out.old) (O.contents out.new) (guarded_text word.now test.now (stmt_texts body.now)) }
+    ensures cause { Causes before result (O.faults out.old) (O.faults out.new) }
+    ensures keeps { O.keeps out.old out.new }
+{
+    let ended = put_opened(before, out, word, test);
+    put_closed(ended, out, body)
 }
 
 // The lines of a block, and the brace that closes it.

@@ -1,11 +1,11 @@
 -- What is told decides the status, and the status tells what came.
-use Rattle.std.proofs.Common.{◌≡◌, ℕ, List, Option, IsSome, ◌⊎◌, inl, inr, refl, sym, subst, ◌∙◌}
+use Rattle.std.proofs.Common.{◌≡◌, ℕ, ◌⊎◌, inl, inr, refl, sym, subst}
 use Rattle.lf_base.specs.Causes.{Rose}
 use Rattle.lf_base.specs.Contents.{Appends}
 use Rattle.lf_driver.specs.declared.outcome.Outcome.{Outcome}
 use Rattle.lf_driver.specs.declared.outcome.Outcome.TheVariants.{Done, Usage, Absent, Refused, ReadFault, WriteFault, Memory}
-use Rattle.lf_driver.specs.Ends.{status_of, text_of, ComesTo, Counts, Reports, Tells, GainsBoth, EndsBy}
-use Rattle.lf_driver.specs.Answers.{Call, Answered, InPlace}
+use Rattle.lf_driver.specs.Ends.{status_of, text_of, ComesTo, Counts, Reports, Tells, GainsBoth}
+use Rattle.lf_driver.specs.Answers.{Call, Answered}
 
 -- the text of what came was written, or that of a fault behind a front of it
 abbrev Told : Outcome → Outcome → Call → Type 0

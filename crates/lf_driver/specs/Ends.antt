@@ -91,8 +91,3 @@ abbrev pub TellsOr : Outcome → Result (Unit {0}) PutFault → Option (List ℕ
 TellsOr came (Ok _) old new faults faults' = Appends old new (text_of came) × (faults' ≡ faults)
 TellsOr came (Err put.Failed) old new faults faults' = Rose faults faults' × GainsBoth old new (text_of came) (text_of WriteFault)
 TellsOr came (Err put.Memory) old new faults faults' = GainsBoth old new (text_of came) (text_of Memory)
-
--- How a call ends: something has come of the words, and it is told on the last sink. What is told decides the status.
-abbrev pub EndsBy : ℕ → List (List ℕ) → Option Files → Option Files → ℕ → ℕ → ℕ → ℕ → Option (List ℕ) → Option (List ℕ) → ℕ → ℕ → Type 0
-EndsBy status words old new reads reads' writes writes' held held' faults faults' =
-    (came : Outcome) × (told : Outcome) × (status ≡ status_of told) × ComesTo came words old new × Counts came reads reads' writes writes' × Reports came told held held' faults faults'

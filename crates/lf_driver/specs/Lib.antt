@@ -1,3 +1,4 @@
+pub mod Answers
 pub mod Source
 pub mod Words
 pub mod Parse

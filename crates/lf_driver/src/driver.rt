@@ -1,5 +1,5 @@
 ghost use Rattle.std.specs.Prelude.{◌≡◌, map, string_bytes};
-ghost use Rattle.lf_driver.specs.Ends.{EndsBy};
+ghost use Rattle.lf_driver.specs.Answers.{Answered};
 
 use crate::compile::compile;
 use crate::outcome::report;
@@ -15,7 +15,7 @@ pub fn lf_main<S: Store, I: Source, O: Sink, E: Sink>(
     out: &mut O,
     err: &mut E,
 ) -> u8
-    ensures ends { EndsBy result (map string_bytes words.now) (S.files store.old) (S.files store.new) (S.read_faults store.old) (S.read_faults store.new) (S.Sink.faults store.old) (S.Sink.faults store.new) (E.contents err.old) (E.contents err.new) (E.faults err.old) (E.faults err.new) }
+    ensures answered { Answered result (record { words = map string_bytes words.now; old = S.files store.old; new = S.files store.new; reads = S.read_faults store.old; reads' = S.read_faults store.new; writes = S.Sink.faults store.old; writes' = S.Sink.faults store.new; held = E.contents err.old; held' = E.contents err.new; faults = E.faults err.old; faults' = E.faults err.new }) }
     ensures input { input.new ≡ input.old }
     ensures out { out.new ≡ out.old }
 {

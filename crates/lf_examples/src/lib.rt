@@ -4,6 +4,8 @@
 #[cfg(test)]
 mod arena;
 #[cfg(test)]
+mod compile;
+#[cfg(test)]
 mod operations;
 #[cfg(test)]
 mod types;

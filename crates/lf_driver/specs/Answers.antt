@@ -1,0 +1,69 @@
+-- What the status of a call tells, status by status.
+use Rattle.std.specs.Prelude.{◌≡◌, ℕ, zero, suc, List, [], ◌∷◌, codes, Option, Some, None, IsSome, ◌⊎◌}
+use Rattle.std.specs.Fmt.{decimal}
+use Rattle.lf_base.specs.declared.rule.Rule.{Rule}
+use Rattle.lf_base.specs.Causes.{Rose}
+use Rattle.lf_base.specs.Contents.{Appends, AppendsPart, joined}
+use Rattle.lf_base.specs.Files.{Files}
+use Rattle.lf_base.specs.Rules.{number_of}
+use Rattle.lf_driver.specs.declared.outcome.Outcome.{Outcome}
+use Rattle.lf_driver.specs.Words.{words_of}
+use Rattle.lf_driver.specs.Verdict.{verdict}
+use Rattle.lf_driver.specs.Verdict as judged
+use Rattle.lf_driver.specs.Ends.{Told, Written, ComesTo, GainsBoth, text_of}
+
+-- a call: its words, and what it finds and leaves
+pub record Call : Type 0 where
+  pub words : List (List ℕ)
+  -- the files of the store
+  pub old : Option Files
+  pub new : Option Files
+  -- the store's count of failed reads
+  pub reads : ℕ
+  pub reads' : ℕ
+  -- the store's count of failed writes
+  pub writes : ℕ
+  pub writes' : ℕ
+  -- what the sink of the texts holds
+  pub held : Option (List ℕ)
+  pub held' : Option (List ℕ)
+  -- its count of failed writes
+  pub faults : ℕ
+  pub faults' : ℕ
+
+abbrev pub absent_text : List ℕ → List ℕ
+absent_text name = joined (codes "lf: no such file: " ∷ name ∷ codes "\n" ∷ [])
+
+abbrev pub refused_text : List ℕ → ℕ → Rule → List ℕ
+refused_text name line rule = joined (name ∷ codes ":" ∷ decimal line ∷ codes ": E" ∷ joined (decimal (number_of rule) ∷ codes "\n" ∷ []) ∷ [])
+
+-- no count rose
+abbrev pub Quiet : Call → Type 0
+Quiet c = (c.reads' ≡ c.reads) × (c.writes' ≡ c.writes) × (c.faults' ≡ c.faults)
+
+-- the words are no command
+abbrev pub AnswersUsage : Call → Type 0
+AnswersUsage c = (words_of c.words ≡ None) × (c.new ≡ c.old) × Appends c.held c.held' (codes "lf: usage: COMMAND [--turns=N] FILE ...\n") × Quiet c
+
+-- the file that the words name is not there
+abbrev pub AnswersAbsent : Call → Type 0
+AnswersAbsent c =
+    IsSome (words_of c.words) × (c.new ≡ c.old) × ((name : List ℕ) × Told c.old (λ files. verdict c.words files ≡ judged.Absent name) × Appends c.held c.held' (absent_text name)) × Quiet c
+
+-- a text that told what had come could not be written, and this one was tried behind a front of it
+abbrev pub InPlace : Call → List ℕ → Type 0
+InPlace c text = (came : Outcome) × ComesTo came c.words c.old c.new × GainsBoth c.held c.held' (text_of came) text
+
+-- 0: the files are those of before, with the C file of the words under its name. 1: the file breaks a rule. 2: there is no
+-- such command or file. 3: a read failed. 4: a write failed. 5: memory ran out. Only 0 changes the files.
+abbrev pub Answered : ℕ → Call → Type 0
+Answered zero c = IsSome (words_of c.words) × Told c.old (Written c.words c.new) × (c.held' ≡ c.held) × Quiet c
+Answered (suc zero) c =
+    IsSome (words_of c.words) × (c.new ≡ c.old) × ((name : List ℕ) × (line : ℕ) × (rule : Rule) × Told c.old (λ files. verdict c.words files ≡ judged.Refused name line rule) × Appends c.held c.held' (refused_text name line rule)) × Quiet c
+Answered (suc (suc zero)) c = AnswersUsage c ⊎ AnswersAbsent c
+Answered (suc (suc (suc zero))) c = (c.new ≡ c.old) × Rose c.reads c.reads' × (c.writes' ≡ c.writes) × AppendsPart c.held c.held' (codes "lf: read fault\n")
+Answered (suc (suc (suc (suc zero)))) c =
+    (c.reads' ≡ c.reads) × (((c.new ≡ c.old) × Rose c.writes c.writes' × AppendsPart c.held c.held' (codes "lf: write fault\n")) ⊎ ((c.new ≡ c.old) × (c.writes' ≡ c.writes) × Rose c.faults c.faults' × InPlace c (codes "lf: write fault\n")))
+Answered (suc (suc (suc (suc (suc zero))))) c =
+    (c.new ≡ c.old) × (c.reads' ≡ c.reads) × (c.writes' ≡ c.writes) × (AppendsPart c.held c.held' (codes "lf: out of memory\n") ⊎ InPlace c (codes "lf: out of memory\n"))
+Answered (suc (suc (suc (suc (suc (suc status)))))) c = ⊥

@@ -1,0 +1,355 @@
+use lf_base::{MemStore, Memory, SureSink, SureSource, SureStore};
+use lf_driver::lf_main;
+use std::alloc::{AllocError, Global};
+use std::test::Fail;
+
+// What a call of `compile` leaves: its status, the texts on `out` and `err`, and the C file.
+#[derive(Drop)]
+struct Left {
+    status: u8,
+    out: SureSink,
+    err: SureSink,
+    store: SureStore,
+}
+
+fn failed(_: Memory) -> AllocError {
+    AllocError
+}
+
+fn text(alloc: Global, words: &[&str]) -> Result<Vec<String>, AllocError> {
+    let mut all = Vec::new(alloc);
+    for word in words {
+        all.push(String::from_str(alloc, word)?)?;
+    }
+    Ok(all)
+}
+
+fn ran(alloc: Global, words: &[&str], name: &str, source: &[u8]) -> Result<Left, AllocError> {
+    let mut files = Vec::new(alloc);
+    let file = (
+        String::from_str(alloc, name)?,
+        Vec::from_slice(alloc, source)?,
+    );
+    files.push(file)?;
+    let mut store = SureStore::new(alloc, files).map_err(failed)?;
+    let words = text(alloc, words)?;
+    let mut input = SureSource::new(Vec::new(alloc));
+    let mut out = SureSink::new(alloc).map_err(failed)?;
+    let mut err = SureSink::new(alloc).map_err(failed)?;
+    let status = lf_main(
+        alloc,
+        words.as_slice(),
+        &mut store,
+        &mut input,
+        &mut out,
+        &mut err,
+    );
+    Ok(Left {
+        status,
+        out,
+        err,
+        store,
+    })
+}
+
+// The sum and the product of three literals, behind the prelude.
+const SUM: &str = "void lf_1_p_init(void);
+void lf_1_p_init(void) {
+return;
+}
+int main(void) {
+lf_1_p_init();
+{
+int64_t r1 = 0;
+putchar(32);
+int64_t t1 = 2;
+int64_t t2 = 3;
+int64_t t3 = 4;
+int64_t t4 = lf_mul(t2, t3);
+int64_t t5 = lf_fit(t4);
+int64_t t6 = lf_add(t1, t5);
+int64_t t7 = lf_fit(t6);
+lf_gap(&r1, 1);
+lf_int(t7);
+putchar(10);
+}
+return 0;
+}
+";
+
+// Differences associate to the left, and a product is made before them.
+const DIFFERENCES: &str = "void lf_4_deep_init(void);
+void lf_4_deep_init(void) {
+return;
+}
+int main(void) {
+lf_4_deep_init();
+{
+int64_t r1 = 0;
+putchar(32);
+int64_t t1 = 1;
+int64_t t2 = 2;
+int64_t t3 = 3;
+int64_t t4 = lf_mul(t2, t3);
+int64_t t5 = lf_fit(t4);
+int64_t t6 = lf_sub(t1, t5);
+int64_t t7 = lf_fit(t6);
+int64_t t8 = 4;
+int64_t t9 = lf_sub(t7, t8);
+int64_t t10 = lf_fit(t9);
+lf_gap(&r1, 1);
+lf_int(t10);
+putchar(10);
+}
+return 0;
+}
+";
+
+// The first and the last lines of the prelude.
+const HEAD: &str = "#include <stdint.h>
+#include <stdio.h>
+#include <stdlib.h>
+static void lf_trap(int64_t k, unsigned char *s) {
+int64_t i = 0;
+";
+
+const FOOT: &str = "static void lf_end(int64_t a) {
+if (a < 0) {
+lf_trap(7, (unsigned char *)\"EndOfFile\");
+}
+}
+";
+
+#[test]
+fn a_program_becomes_its_c_file(rt: HostRuntime) -> Result<(), Fail> {
+    let alloc = rt.alloc();
+    let cases = [
+        ("program p\nprint *, 2+3*4\nend program p\n", SUM),
+        (
+            "\n program deep\n\tprint*,1 - 2*3-4\n\nend program",
+            DIFFERENCES,
+        ),
+    ];
+    for (source, behind) in cases {
+        let left = ran(
+            alloc,
+            &["compile", "x/p1.f90"],
+            "x/p1.f90",
+            source.as_bytes(),
+        )?;
+        assert_eq!(rt; left.status, 0);
+        assert!(rt; left.out.bytes().is_empty());
+        assert!(rt; left.err.bytes().is_empty());
+        let c = left.store.file("x/p1.c").unwrap_or(b"");
+        assert!(rt; c.starts_with(HEAD.as_bytes()));
+        let front = c.strip_suffix(behind.as_bytes()).unwrap_or(b"");
+        assert!(rt; front.ends_with(FOOT.as_bytes()));
+    }
+    Ok(())
+}
+
+#[test]
+fn each_refusal_names_its_line(rt: HostRuntime) -> Result<(), Fail> {
+    let alloc = rt.alloc();
+    let cases = [
+        ("program p\nprint *, 2+3*4\nend program p\n", 0, ""),
+        ("program p\nprint *, 2147483647\nend program\n", 0, ""),
+        (
+            "program p_1\nprint *, 00000000000000000001\nend program p_1\n",
+            0,
+            "",
+        ),
+        // a literal that kind 4 does not hold
+        (
+            "program p\nprint *, 2+3*2147483648\nend program p\n",
+            1,
+            "p1.f90:2: E202\n",
+        ),
+        // fewer than three statements
+        ("", 1, "p1.f90:1: E202\n"),
+        ("\n\n\nprogram p\n", 1, "p1.f90:4: E202\n"),
+        ("program p\n\nprint *, 1\n", 1, "p1.f90:3: E202\n"),
+        // a fourth one
+        (
+            "program p\nprint *, 1\nend program p\n\nprint *, 2\n",
+            1,
+            "p1.f90:5: E202\n",
+        ),
+        // not in their form
+        ("program\nprint *, 1\nend program\n", 1, "p1.f90:1: E202\n"),
+        (
+            "program p q\nprint *, 1\nend program\n",
+            1,
+            "p1.f90:1: E202\n",
+        ),
+        ("program p\nprint *,\nend program\n", 1, "p1.f90:2: E202\n"),
+        (
+            "program p\nprint *, -1\nend program\n",
+            1,
+            "p1.f90:2: E202\n",
+        ),
+        (
+            "program p\nprint *, 1 +\nend program\n",
+            1,
+            "p1.f90:2: E202\n",
+        ),
+        (
+            "program p\nprint *, 1 2\nend program\n",
+            1,
+            "p1.f90:2: E202\n",
+        ),
+        (
+            "program p\nprint *, x\nend program\n",
+            1,
+            "p1.f90:2: E202\n",
+        ),
+        (
+            "program p\nprint *, 1\nend program q\n",
+            1,
+            "p1.f90:3: E202\n",
+        ),
+        ("program p\nprint *, 1\nend\n", 1, "p1.f90:3: E202\n"),
+        (
+            "program p\nprint *, 1\nend program p p\n",
+            1,
+            "p1.f90:3: E202\n",
+        ),
+        // a byte that begins no token is told before all of these
+        (
+            "print *, 1\nprogram p\nend program (\n",
+            1,
+            "p1.f90:3: E202\n",
+        ),
+        (
+            "program P\nprint *, 1\nend program\n",
+            1,
+            "p1.f90:1: E202\n",
+        ),
+        (
+            "program _p\nprint *, 1\nend program\n",
+            1,
+            "p1.f90:1: E202\n",
+        ),
+        (
+            "program p\nprint *, 1_4\nend program\n",
+            1,
+            "p1.f90:2: E202\n",
+        ),
+        (
+            "program p\r\nprint *, 1\r\nend program\r\n",
+            1,
+            "p1.f90:1: E202\n",
+        ),
+    ];
+    for (source, status, told) in cases {
+        let left = ran(alloc, &["compile", "p1.f90"], "p1.f90", source.as_bytes())?;
+        assert_eq!(rt; left.status, status, "at {source}");
+        assert_eq!(rt; left.err.bytes(), told.as_bytes(), "at {source}");
+        assert!(rt;
+            left.store.file("p1.c").is_some() == (status == 0),
+            "at {source}"
+        );
+    }
+    Ok(())
+}
+
+// `print*,1`, and so many times `+1` behind it, in a program whose name has so many letters.
+fn long_source(alloc: Global, ones: usize, letters: usize) -> Result<Vec<u8>, AllocError> {
+    let mut source = Vec::from_slice(alloc, b"program ")?;
+    for _ in 0..letters {
+        source.push(b'n')?;
+    }
+    source.extend_from_slice(b"\nprint*,1")?;
+    for _ in 0..ones {
+        source.extend_from_slice(b"+1")?;
+    }
+    source.extend_from_slice(b"\nend program\n")?;
+    Ok(source)
+}
+
+#[test]
+fn lines_and_names_have_limits(rt: HostRuntime) -> Result<(), Fail> {
+    let alloc = rt.alloc();
+    // 8 bytes and 62 times 2 make a line of 132
+    let cases = [
+        (62, 63, 0, ""),
+        (63, 63, 1, "p1.f90:2: E202\n"),
+        (62, 64, 1, "p1.f90:1: E202\n"),
+    ];
+    for (ones, letters, status, told) in cases {
+        let source = long_source(alloc, ones, letters)?;
+        let left = ran(alloc, &["compile", "p1.f90"], "p1.f90", source.as_slice())?;
+        assert_eq!(rt; left.status, status, "at {ones}");
+        assert_eq!(rt; left.err.bytes(), told.as_bytes(), "at {ones}");
+    }
+    Ok(())
+}
+
+const USAGE: &str = "lf: usage: COMMAND [--turns=N] FILE ...\n";
+
+#[test]
+fn other_words_are_refused(rt: HostRuntime) -> Result<(), Fail> {
+    let alloc = rt.alloc();
+    let cases: [(&[&str], &str); 8] = [
+        (&["compile", "a.txt"], USAGE),
+        (&["compile"], USAGE),
+        (&[], USAGE),
+        (&["p1.f90"], USAGE),
+        (&["compile", "-p.f90"], USAGE),
+        (&["compile", "p1.f90", "p1.f90"], USAGE),
+        (&["compile", "q.f90"], "lf: no such file: q.f90\n"),
+        (&["compile", ".f90"], "lf: no such file: .f90\n"),
+    ];
+    for (words, told) in cases {
+        let left = ran(
+            alloc,
+            words,
+            "p1.f90",
+            b"program p\nprint *, 1\nend program p\n",
+        )?;
+        assert_eq!(rt; left.status, 2, "at {told}");
+        assert_eq!(rt; left.err.bytes(), told.as_bytes(), "at {told}");
+        assert!(rt; left.out.bytes().is_empty());
+    }
+    Ok(())
+}
+
+#[test]
+fn faults_of_the_store_are_told(rt: HostRuntime) -> Result<(), Fail> {
+    let alloc = rt.alloc();
+    // the read, the start, the put and the finish
+    let cases = [
+        (0, 3, "lf: read fault\n"),
+        (1, 4, "lf: write fault\n"),
+        (2, 4, "lf: write fault\n"),
+        (3, 4, "lf: write fault\n"),
+        (4, 0, ""),
+    ];
+    for (call, status, told) in cases {
+        let mut files = Vec::new(alloc);
+        let source = Vec::from_slice(alloc, b"program p\nprint *, 1\nend program p\n")?;
+        files.push((String::from_str(alloc, "p1.f90")?, source))?;
+        let mut fails = Vec::new(alloc);
+        fails.push(call)?;
+        let mut store = MemStore::new(alloc, files, fails).map_err(failed)?;
+        let words = text(alloc, &["compile", "p1.f90"])?;
+        let mut input = SureSource::new(Vec::new(alloc));
+        let mut out = SureSink::new(alloc).map_err(failed)?;
+        let mut err = SureSink::new(alloc).map_err(failed)?;
+        let answer = lf_main(
+            alloc,
+            words.as_slice(),
+            &mut store,
+            &mut input,
+            &mut out,
+            &mut err,
+        );
+        assert_eq!(rt; answer, status, "at call {call}");
+        assert_eq!(rt; err.bytes(), told.as_bytes(), "at call {call}");
+        assert!(rt;
+            store.file("p1.c").is_some() == (status == 0),
+            "at call {call}"
+        );
+    }
+    Ok(())
+}

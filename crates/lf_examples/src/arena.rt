@@ -85,45 +85,73 @@ fn names_are_looked_up_along_the_parents(rt: HostRuntime) -> Result<(), Fail> {
     Ok(())
 }
 
+/// Checks a table's parent and owner, and its first, third and fourth symbol.
+fn check_table(
+    rt: &impl Abort,
+    arena: &Arena<u32>,
+    table: TableId,
+    links: (Option<TableId>, Option<SymId>),
+    symbols: (Option<SymId>, Option<SymId>, Option<SymId>),
+) {
+    assert_eq!(rt; (arena.parent(table), arena.owner(table)), links);
+    assert_eq!(rt;
+        (arena.at(table, 0), arena.at(table, 2), arena.at(table, 3)),
+        symbols
+    );
+}
+
+/// Checks a live symbol's table and the table that it owns, its name and what it stands for.
+fn check_symbol(
+    rt: &impl Abort,
+    arena: &Arena<u32>,
+    symbol: SymId,
+    links: (TableId, Option<TableId>),
+    text: &[u8],
+    what: u32,
+) {
+    assert!(rt; arena.live(symbol));
+    assert_eq!(rt; (arena.table_of(symbol), arena.owned(symbol)), links);
+    assert_eq!(rt; arena.name_of(symbol).bytes(), text);
+    assert_eq!(rt; *arena.what(symbol), what);
+}
+
+/// Checks how many symbols are live, and the numbers that come next.
+fn check_counts(rt: &impl Abort, arena: &Arena<u32>, live: usize, given: usize, tables: u32) {
+    assert_eq!(rt; (arena.len(), arena.given()), (live, given));
+    assert_eq!(rt; arena.next_table(), TableId(tables));
+}
+
 #[test]
 fn tables_and_symbols_name_one_another(rt: HostRuntime) -> Result<(), Fail> {
     let arena = sample(&rt, rt.alloc())?;
-    let tables = [
-        (ROOT, None, None, Some(SymId(0)), None),
-        (
-            PROGRAM,
-            Some(ROOT),
-            Some(SymId(0)),
-            Some(SymId(1)),
-            Some(SymId(4)),
-        ),
-        (INNER, Some(PROGRAM), Some(SymId(2)), Some(SymId(3)), None),
-    ];
-    for (table, parent, owner, first, third) in tables {
-        assert_eq!(rt; arena.parent(table), parent);
-        assert_eq!(rt; arena.owner(table), owner);
-        assert_eq!(rt; arena.at(table, 0), first);
-        assert_eq!(rt; arena.at(table, 2), third);
-        assert_eq!(rt; arena.at(table, 3), None);
-    }
-    let symbols: [(u32, TableId, Option<TableId>, &[u8], u32); 5] = [
-        (0, ROOT, Some(PROGRAM), b"p", 10),
-        (1, PROGRAM, None, b"x", 11),
-        (2, PROGRAM, Some(INNER), b"s", 12),
-        (3, INNER, None, b"x", 13),
-        (4, PROGRAM, None, b"y", 14),
-    ];
-    for (number, table, owned, text, what) in symbols {
-        let symbol = SymId(number);
-        assert!(rt; arena.live(symbol));
-        assert_eq!(rt; arena.table_of(symbol), table);
-        assert_eq!(rt; arena.owned(symbol), owned);
-        assert_eq!(rt; arena.name_of(symbol).bytes(), text);
-        assert_eq!(rt; *arena.what(symbol), what);
-    }
-    assert_eq!(rt; arena.len(), 5);
-    assert_eq!(rt; arena.given(), 5);
-    assert_eq!(rt; arena.next_table(), TableId(3));
+    let first = Some(SymId(1));
+    check_table(
+        &rt,
+        &arena,
+        ROOT,
+        (None, None),
+        (Some(SymId(0)), None, None),
+    );
+    check_table(
+        &rt,
+        &arena,
+        PROGRAM,
+        (Some(ROOT), Some(SymId(0))),
+        (first, Some(SymId(4)), None),
+    );
+    check_table(
+        &rt,
+        &arena,
+        INNER,
+        (Some(PROGRAM), Some(SymId(2))),
+        (Some(SymId(3)), None, None),
+    );
+    check_symbol(&rt, &arena, SymId(0), (ROOT, Some(PROGRAM)), b"p", 10);
+    check_symbol(&rt, &arena, SymId(1), (PROGRAM, None), b"x", 11);
+    check_symbol(&rt, &arena, SymId(2), (PROGRAM, Some(INNER)), b"s", 12);
+    check_symbol(&rt, &arena, SymId(3), (INNER, None), b"x", 13);
+    check_symbol(&rt, &arena, SymId(4), (PROGRAM, None), b"y", 14);
+    check_counts(&rt, &arena, 5, 5, 3);
     assert!(rt; !arena.live(SymId(5)));
     assert!(rt; !arena.has_table(TableId(3)));
     Ok(())
@@ -150,6 +178,40 @@ fn a_second_declaration_changes_nothing(rt: HostRuntime) -> Result<(), Fail> {
     Ok(())
 }
 
+/// Declares a name before the symbol at a place of the root.
+fn declare_before(
+    rt: &impl Abort,
+    arena: &mut Arena<u32>,
+    place: usize,
+    name: &Name,
+    what: u32,
+) -> Result<SymId, ArenaFault> {
+    assert!(rt; arena.has_table(ROOT));
+    assert!(rt; arena.at(ROOT, place).is_some());
+    arena.declare_at(ROOT, place, name, what)
+}
+
+/// Declares an owner before the symbol at a place of the root.
+fn declare_owner_before(
+    rt: &impl Abort,
+    arena: &mut Arena<u32>,
+    place: usize,
+    name: &Name,
+    what: u32,
+) -> Result<(SymId, TableId), ArenaFault> {
+    assert!(rt; arena.has_table(ROOT));
+    assert!(rt; arena.at(ROOT, place).is_some());
+    arena.declare_owner_at(ROOT, place, name, what)
+}
+
+/// Checks the symbols of the root in their order.
+fn check_order(rt: &impl Abort, arena: &Arena<u32>, numbers: &[u32]) {
+    for (place, number) in numbers.iter().enumerate() {
+        assert_eq!(rt; arena.at(ROOT, place), Some(SymId(*number)), "at {place}");
+    }
+    assert_eq!(rt; arena.at(ROOT, numbers.len()), None);
+}
+
 #[test]
 fn places_move_up_and_down(rt: HostRuntime) -> Result<(), Fail> {
     let alloc = rt.alloc();
@@ -158,19 +220,13 @@ fn places_move_up_and_down(rt: HostRuntime) -> Result<(), Fail> {
         let _ = declare(&rt, alloc, &mut arena, ROOT, text, 0)?;
     }
     let first = Name::new(alloc, b"first")?;
-    arena.linked();
-    assert_eq!(rt; arena.declare_at(ROOT, 0, &first, 1), Ok(SymId(3)));
+    assert_eq!(rt; declare_before(&rt, &mut arena, 0, &first, 1), Ok(SymId(3)));
     let middle = Name::new(alloc, b"middle")?;
-    assert!(rt; arena.at(ROOT, 2) == Some(SymId(1)));
-    arena.linked();
     assert_eq!(rt;
-        arena.declare_owner_at(ROOT, 2, &middle, 2),
+        declare_owner_before(&rt, &mut arena, 2, &middle, 2),
         Ok((SymId(4), PROGRAM))
     );
-    for (place, number) in [(0, 3), (1, 0), (2, 4), (3, 1), (4, 2)] {
-        assert_eq!(rt; arena.at(ROOT, place), Some(SymId(number)), "at {place}");
-    }
-    assert_eq!(rt; arena.at(ROOT, 5), None);
+    check_order(&rt, &arena, &[3, 0, 4, 1, 2]);
     assert_eq!(rt; arena.parent(PROGRAM), Some(ROOT));
     Ok(())
 }
@@ -188,6 +244,20 @@ fn declare_and_remove(
     Ok(arena.remove_owned(owner))
 }
 
+/// Takes out a live symbol that owns no table, once it stands for something else.
+fn replace_and_remove(
+    rt: &impl Abort,
+    arena: &mut Arena<u32>,
+    symbol: SymId,
+    with: u32,
+) -> (u32, u32) {
+    assert!(rt; arena.live(symbol));
+    let old = arena.replace_what(symbol, with);
+    assert!(rt; arena.live(symbol));
+    assert!(rt; arena.owned(symbol).is_none());
+    (old, arena.remove(symbol))
+}
+
 #[test]
 fn removed_numbers_are_not_given_again(rt: HostRuntime) -> Result<(), Fail> {
     let alloc = rt.alloc();
@@ -195,30 +265,28 @@ fn removed_numbers_are_not_given_again(rt: HostRuntime) -> Result<(), Fail> {
     let scope = Name::new(alloc, b"s")?;
     let inner = Name::new(alloc, b"x")?;
     assert_eq!(rt; declare_and_remove(&mut arena, &scope, &inner), Ok(7));
-    assert_eq!(rt;
-        (arena.len(), arena.given(), arena.next_table()),
-        (0, 2, TableId(2))
-    );
+    check_counts(&rt, &arena, 0, 2, 2);
     assert!(rt; !arena.live(SymId(0)));
     assert!(rt; !arena.live(SymId(1)));
     assert!(rt; !arena.has_table(PROGRAM));
-    assert_eq!(rt; arena.lookup_here(ROOT, &scope), None);
-
+    check_order(&rt, &arena, &[]);
     assert_eq!(rt;
         declare(&rt, alloc, &mut arena, ROOT, b"s", 9)?,
         Ok(SymId(2))
     );
-    assert_eq!(rt;
-        declare(&rt, alloc, &mut arena, ROOT, b"t", 10)?,
-        Ok(SymId(3))
-    );
-    assert!(rt; arena.live(SymId(2)));
-    assert_eq!(rt; arena.replace_what(SymId(2), 20), 9);
-    assert!(rt; arena.live(SymId(2)));
-    assert_eq!(rt; arena.owned(SymId(2)), None);
-    assert_eq!(rt; arena.remove(SymId(2)), 20);
-    assert_eq!(rt; arena.at(ROOT, 0), Some(SymId(3)));
-    assert_eq!(rt; (arena.len(), arena.given()), (1, 4));
+    Ok(())
+}
+
+#[test]
+fn a_removal_closes_the_order(rt: HostRuntime) -> Result<(), Fail> {
+    let alloc = rt.alloc();
+    let mut arena: Arena<u32> = Arena::new(alloc)?;
+    for text in [b"a", b"b", b"c"] {
+        let _ = declare(&rt, alloc, &mut arena, ROOT, text, 9)?;
+    }
+    assert_eq!(rt; replace_and_remove(&rt, &mut arena, SymId(1), 20), (9, 20));
+    check_order(&rt, &arena, &[0, 2]);
+    check_counts(&rt, &arena, 2, 3, 1);
     Ok(())
 }
 
@@ -231,7 +299,7 @@ fn the_numbers_end(rt: HostRuntime) -> Result<(), Fail> {
         arena.linked();
         let _ = arena.declare(ROOT, &name, number)?;
     }
-    assert_eq!(rt; (arena.len(), arena.given()), (1_048_576, 1_048_576));
+    check_counts(&rt, &arena, 1_048_576, 1_048_576, 1);
     assert_eq!(rt;
         declare(&rt, alloc, &mut arena, ROOT, b"new", 0)?,
         Err(ArenaFault::Full)

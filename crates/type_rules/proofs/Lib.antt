@@ -6,3 +6,4 @@ pub mod Divisions
 pub mod Matches
 pub mod Fits
 pub mod Arrays
+pub mod Places

@@ -1,6 +1,6 @@
 //! Laws of the definitions, for the crates above. None of these functions does anything.
-ghost use Rattle.std.specs.Prelude.{◌≡◌, ℕ, ℤ, Ok, ◌+ℤ◌, ◌*ℤ◌, List, map, true};
-ghost use Rattle.type_rules.specs.Store.{Single};
+ghost use Rattle.std.specs.Prelude.{◌≡◌, ℕ, ℤ, Ok, Some, ◌+ℤ◌, ◌*ℤ◌, List, map, true};
+ghost use Rattle.type_rules.specs.Store.{Single, Value, Step, value_at, with_value};
 ghost use Rattle.type_rules.specs.Arrays.{operation_on, single, OfEmpty};
 ghost use Rattle.type_rules.specs.Operations.{operation};
 ghost use Rattle.type_rules.specs.declared.constant.Op.{Op};
@@ -43,3 +43,9 @@ pub fn values_of_scalars()
 pub fn reductions_of_nothing()
     ensures { (kind : ℕ) → OfEmpty kind }
 {}
+
+/// What was written at the end of a path is read there.
+pub fn written_is_read()
+    ensures { (path : List Step) (v new w : Value) → with_value path new v ≡ Some w → value_at path w ≡ Some new }
+{
+}

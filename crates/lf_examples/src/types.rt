@@ -68,7 +68,7 @@ use Want::{Breaks, Gives};
 
 type Case = (u8, Shape, Shape, Want);
 
-const CASES: [Case; 74] = [
+const ARITHMETIC: [Case; 15] = [
     (code::ADD, (I4, &[]), (I4, &[]), Gives((I4, &[]))),
     (code::ADD, (I4, &[]), (I8, &[]), Gives((I8, &[]))),
     (code::SUBTRACT, (I4, &[]), (I4, &[]), Gives((I4, &[]))),
@@ -84,6 +84,9 @@ const CASES: [Case; 74] = [
     (code::ADD, (I4, &[]), (L, &[]), Breaks(Rule::E401)),
     (code::ADD, (C3, &[]), (C3, &[]), Breaks(Rule::E401)),
     (code::ADD, (D1, &[]), (D1, &[]), Breaks(Rule::E401)),
+];
+
+const RELATIONS: [Case; 24] = [
     (code::EQ, (I4, &[]), (I8, &[]), Gives((L, &[]))),
     (code::EQ, (C3, &[]), (CX, &[]), Gives((L, &[]))),
     (code::EQ, (L, &[]), (L, &[]), Breaks(Rule::E401)),
@@ -108,6 +111,9 @@ const CASES: [Case; 74] = [
     (code::GE, (C3, &[]), (CX, &[]), Gives((L, &[]))),
     (code::GE, (L, &[]), (L, &[]), Breaks(Rule::E401)),
     (code::GE, (I4, &[]), (C3, &[]), Breaks(Rule::E401)),
+];
+
+const LOGICALS: [Case; 9] = [
     (code::AND, (L, &[]), (L, &[]), Gives((L, &[]))),
     (code::AND, (I4, &[]), (L, &[]), Breaks(Rule::E401)),
     (code::OR, (L, &[]), (L, &[]), Gives((L, &[]))),
@@ -116,6 +122,10 @@ const CASES: [Case; 74] = [
     (code::EQV, (I4, &[]), (L, &[]), Breaks(Rule::E401)),
     (code::NEQV, (L, &[]), (L, &[]), Gives((L, &[]))),
     (code::NEQV, (I4, &[]), (L, &[]), Breaks(Rule::E401)),
+    (code::NOT, (L, &[]), (L, &[]), Breaks(Rule::E401)),
+];
+
+const TEXTS: [Case; 9] = [
     (code::CONCATENATE, (C3, &[]), (C5, &[]), Gives((C8, &[]))),
     (code::CONCATENATE, (C3, &[]), (CX, &[]), Gives((CX, &[]))),
     (code::CONCATENATE, (CX, &[]), (C3, &[]), Gives((CX, &[]))),
@@ -150,6 +160,9 @@ const CASES: [Case; 74] = [
         (C3, &[]),
         Breaks(Rule::E401),
     ),
+];
+
+const SHAPES: [Case; 17] = [
     (code::ADD, (I4, &[ONE]), (I4, &[]), Gives((I4, &[ONE]))),
     (code::ADD, (I4, &[LOW]), (I4, &[]), Gives((I4, &[ONE]))),
     (code::ADD, (I8, &[]), (I4, &[LOW]), Gives((I8, &[ONE]))),
@@ -192,7 +205,6 @@ const CASES: [Case; 74] = [
     (code::EQ, (C3, &[ONE]), (C5, &[THREE]), Breaks(Rule::E412)),
     (code::EQ, (C3, &[ONE]), (C5, &[]), Gives((L, &[ONE]))),
     (code::AND, (L, &[ANY]), (L, &[ONE]), Gives((L, &[ONE]))),
-    (code::NOT, (L, &[]), (L, &[]), Breaks(Rule::E401)),
 ];
 
 fn ty(alloc: Global, shape: &Shape) -> Result<Ty, AllocError> {
@@ -226,8 +238,27 @@ fn first_wrong(alloc: Global, cases: &[Case]) -> Result<Option<usize>, AllocErro
 }
 
 #[test]
-fn types_of_operations(rt: HostRuntime) -> Result<(), Fail> {
-    assert_eq!(rt; first_wrong(rt.alloc(), &CASES)?, None);
+fn types_of_numbers(rt: HostRuntime) -> Result<(), Fail> {
+    assert_eq!(rt; first_wrong(rt.alloc(), &ARITHMETIC)?, None);
+    Ok(())
+}
+
+#[test]
+fn types_of_relations(rt: HostRuntime) -> Result<(), Fail> {
+    assert_eq!(rt; first_wrong(rt.alloc(), &RELATIONS)?, None);
+    Ok(())
+}
+
+#[test]
+fn types_of_logicals_and_texts(rt: HostRuntime) -> Result<(), Fail> {
+    assert_eq!(rt; first_wrong(rt.alloc(), &LOGICALS)?, None);
+    assert_eq!(rt; first_wrong(rt.alloc(), &TEXTS)?, None);
+    Ok(())
+}
+
+#[test]
+fn types_of_arrays(rt: HostRuntime) -> Result<(), Fail> {
+    assert_eq!(rt; first_wrong(rt.alloc(), &SHAPES)?, None);
     Ok(())
 }
 

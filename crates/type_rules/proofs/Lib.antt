@@ -7,3 +7,4 @@ pub mod Matches
 pub mod Fits
 pub mod Arrays
 pub mod Places
+pub mod Values

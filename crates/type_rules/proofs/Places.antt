@@ -38,7 +38,7 @@ cut_with skipped count bytes new e h =
     let n : length front ≡ skipped = simp length-take (omega arith) in
     let whole = append_assoc front new rest in
     let d : drop skipped (front ++ new ++ rest) ≡ new ++ rest =
-        ap (drop skipped) whole ∙ ap (λ k. drop k (front ++ (new ++ rest))) (sym n) ∙ drop-append_seam front (new ++ rest) in
+    ap (drop skipped) whole ∙ ap (λ k. drop k (front ++ (new ++ rest))) (sym n) ∙ drop-append_seam front (new ++ rest) in
     let t : take count (new ++ rest) ≡ new = ap (λ k. take k (new ++ rest)) (sym e) ∙ take-append_seam new rest in
     let room : skipped + count ≤ length (front ++ new ++ rest) = simp length-append (omega arith) in
     cut_if (nat_le (skipped + count) (length (front ++ new ++ rest))) (skipped + count) (length (front ++ new ++ rest)) _ _ refl room (ap (take count) d ∙ t)
@@ -53,6 +53,7 @@ spliced_cut skipped count bytes (Single (Characters text)) w e = by ((length tex
   where
     whole : List ℕ
     whole = take skipped bytes ++ text ++ drop (skipped + count) bytes
+
     by : (t : Bool) → ((length text == count) && nat_le (skipped + count) (length bytes)) ≡ t → (if t then Some (Single (Characters (take skipped bytes ++ text ++ drop (skipped + count) bytes))) else None) ≡ Some w → part_of (Bytes skipped count) w ≡ Some (Single (Characters text))
     by true p f =
         let q = both_true (length text == count) (nat_le (skipped + count) (length bytes)) p in
@@ -85,5 +86,5 @@ pub written_is_read : (path : List Step) (v new w : Value) → with_value path n
 written_is_read [] v new w e = sym e
 written_is_read (s ∷ path) v new w e =
     option_and_then_some _ (part_of s v) w e (λ old p g.
-        option_and_then_some (with_part s v) (with_value path new old) w g (λ changed q h.
-            ap (option_and_then (value_at path)) (part_with s v old changed w p h) ∙ written_is_read path old new changed q))
+    option_and_then_some (with_part s v) (with_value path new old) w g (λ changed q h.
+    ap (option_and_then (value_at path)) (part_with s v old changed w p h) ∙ written_is_read path old new changed q))

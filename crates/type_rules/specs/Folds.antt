@@ -2,7 +2,7 @@
 use Rattle.std.specs.Prelude.{◌≡◌, Option, Some, None, Result, Ok, Err}
 use Rattle.lf_base.specs.declared.rule.Rule.{Rule}
 use Rattle.lf_base.specs.declared.rule.Rule.TheVariants.{E401, E415, E416}
-use Rattle.type_rules.specs.Values.{Scalar, Outcome, Gives, Traps, NoRule, constant_of}
+use Rattle.type_rules.specs.Values.{Scalar, Integer, Logical, Characters, Outcome, Gives, Traps, NoRule, constant_of}
 use Rattle.type_rules.specs.declared.constant.Const.{Const}
 use Rattle.type_rules.specs.declared.constant.TypeFault.{TypeFault}
 use Rattle.type_rules.specs.declared.constant.TypeFault.TheVariants.{Rule as Broken, Memory}
@@ -26,7 +26,16 @@ rule_broken (Gives value) = None
 rule_broken (Traps trap) = Some (rule_of trap)
 rule_broken NoRule = Some E401
 
+-- The value is one of characters: no other value takes memory.
+abbrev pub GivesCharacters : Outcome Scalar → Type 0
+GivesCharacters (Gives (Integer _ _)) = ⊥
+GivesCharacters (Gives (Logical _)) = ⊥
+GivesCharacters (Gives (Characters _)) = Unit {0}
+GivesCharacters (Traps _) = ⊥
+GivesCharacters NoRule = ⊥
+
+-- The constant that the operation gives, or the rule that is broken. Want of memory comes for characters alone.
 abbrev pub Folds : Result Const TypeFault → Outcome Scalar → Type 0
 Folds (Ok constant) there = constant_given there ≡ Some constant
 Folds (Err (Broken rule)) there = rule_broken there ≡ Some rule
-Folds (Err Memory) there = Unit {0}
+Folds (Err Memory) there = GivesCharacters there

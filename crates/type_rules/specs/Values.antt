@@ -1,5 +1,5 @@
 -- Scalar values, and what an operation on values gives (ISO/IEC 1539-1:2018, 4.3 and 7.4).
-use Rattle.std.specs.Prelude.{◌≡◌, ℕ, ℤ, pos, negsuc, ◌==◌, Bool, true, false, not, ◌&&◌, if◌then◌else◌, int_le, List, Option, Some, None, Result, Ok, Err}
+use Rattle.std.specs.Prelude.{◌≡◌, ℕ, ℤ, pos, negsuc, ◌==◌, Bool, true, false, not, ◌&&◌, ◌||◌, if◌then◌else◌, int_le, nat_le, length, List, [], ◌∷◌, Option, Some, None, Result, Ok, Err}
 use Rattle.type_rules.specs.declared.trap.Trap.{Trap}
 use Rattle.type_rules.specs.declared.trap.Trap.TheVariants.{IntegerOverflow, DivisionByZero, SubscriptOutOfRange, SubstringOutOfRange, ShapeMismatch, ZeroStep, EndOfFile, LengthLimit, BadCharacterCode}
 use Rattle.type_rules.specs.declared.constant.Const.{Const}
@@ -59,3 +59,17 @@ pub record IsExact (kind : ℕ) (exact : Exact) (value : Scalar) : Type 0 where
   pub is : exact ≡ Ok number
   pub as_value : value ≡ Integer kind number
   pub in_kind : is_in_kind kind number ≡ true
+
+-- The kinds of integers.
+abbrev pub is_kind : ℕ → Bool
+is_kind kind = (kind == 4) || (kind == 8)
+
+-- What a constant may be: an integer that fits its kind, a logical 0 or 1, or at most 65,535 bytes.
+abbrev pub is_constant : Const → Bool
+is_constant (IntConst kind value) = is_kind kind && is_in_kind kind value
+is_constant (LogConst value) = (value == 0) || (value == 1)
+is_constant (CharConst bytes) = nat_le (length bytes) 65535
+
+abbrev pub are_constants : List Const → Bool
+are_constants [] = true
+are_constants (c ∷ cs) = is_constant c && are_constants cs

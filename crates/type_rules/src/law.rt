@@ -4,7 +4,9 @@ ghost use Rattle.type_rules.specs.Store.{Single, Value, Step, value_at, with_val
 ghost use Rattle.type_rules.specs.Arrays.{operation_on, single, OfEmpty};
 ghost use Rattle.type_rules.specs.Operations.{operation};
 ghost use Rattle.type_rules.specs.declared.constant.Op.{Op};
-ghost use Rattle.type_rules.specs.Values.{Exact, Scalar, Gives, fitted, IsExact};
+ghost use Rattle.type_rules.specs.Values.{Exact, Scalar, Gives, fitted, IsExact, is_constant, are_constants, scalar_of};
+ghost use Rattle.type_rules.specs.Folds.{constant_given};
+ghost use Rattle.type_rules.specs.declared.constant.Const.{Const};
 ghost use Rattle.type_rules.specs.Matching.{matches, are_distinguishable};
 ghost use Rattle.type_rules.specs.declared.ty.Ty.{Ty};
 ghost use Rattle.type_rules.specs.Integers.{quotient, remainder, modulo, IsModulo, IsDivision};
@@ -47,5 +49,10 @@ pub fn reductions_of_nothing()
 /// What was written at the end of a path is read there.
 pub fn written_is_read()
     ensures { (path : List Step) (v new w : Value) → with_value path new v ≡ Some w → value_at path w ≡ Some new }
-{
-}
+{}
+
+/// What an operation gives for constants is a constant: an integer that fits its kind, a logical 0 or 1,
+/// or at most 65,535 bytes.
+pub fn gives_constants()
+    ensures { (op : Op) (args : List Const) (c : Const) → are_constants args ≡ true → constant_given (operation op (map scalar_of args)) ≡ Some c → is_constant c ≡ true }
+{}

@@ -470,13 +470,11 @@ fn is_wanted(got: &Result<Const, TypeFault>, want: &Value) -> bool {
 
 /// The place of the first case that answers otherwise, if one does.
 fn first_wrong(alloc: Global, cases: &[Case]) -> Result<Option<usize>, AllocError> {
-    let mut at = 0;
-    for case in cases {
+    for (at, case) in cases.iter().enumerate() {
         let args = constants(alloc, case.1)?;
         if !is_wanted(&fold(alloc, case.0, args.as_slice()), &case.2) {
             return Ok(Some(at));
         }
-        at += 1;
     }
     Ok(None)
 }

@@ -225,14 +225,12 @@ fn is_wanted(got: &Result<Ty, TypeFault>, want: &Want) -> bool {
 
 /// The place of the first case that answers otherwise, if one does.
 fn first_wrong(alloc: Global, cases: &[Case]) -> Result<Option<usize>, AllocError> {
-    let mut at = 0;
-    for case in cases {
+    for (at, case) in cases.iter().enumerate() {
         let a = ty(alloc, &case.1)?;
         let b = ty(alloc, &case.2)?;
         if !is_wanted(&unify(alloc, Op::Binary(case.0), &a, &b), &case.3) {
             return Ok(Some(at));
         }
-        at += 1;
     }
     Ok(None)
 }
@@ -280,14 +278,12 @@ fn first_misjudged(
     alloc: Global,
     pairs: &[(Shape, Shape, bool)],
 ) -> Result<Option<usize>, AllocError> {
-    let mut at = 0;
-    for pair in pairs {
+    for (at, pair) in pairs.iter().enumerate() {
         let a = ty(alloc, &pair.0)?;
         let b = ty(alloc, &pair.1)?;
         if same_type(&a, &b) != pair.2 {
             return Ok(Some(at));
         }
-        at += 1;
     }
     Ok(None)
 }

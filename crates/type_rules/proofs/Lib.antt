@@ -8,3 +8,4 @@ pub mod Fits
 pub mod Arrays
 pub mod Places
 pub mod Values
+pub mod TextLaws

@@ -1,5 +1,5 @@
 -- Operations on characters, by their bytes (ISO/IEC 1539-1:2018, 10.1.5.3, 10.1.5.5 and 16.9: INDEX, LEN_TRIM, TRIM).
-use Rattle.std.specs.Prelude.{ℕ, ◌+◌, ◌-◌, ◌≤◌, max, ◌==◌, nat_eq, nat_le, nat_lt, if◌then◌else◌, List, [], ◌∷◌, ◌++◌, length, replicate, Option, Some, None}
+use Rattle.std.specs.Prelude.{◌≡◌, ◌≢◌, ℕ, ◌+◌, ◌-◌, ◌≤◌, ◌<◌, max, true, drop, ◌==◌, nat_eq, nat_le, nat_lt, if◌then◌else◌, List, [], ◌∷◌, ◌++◌, length, replicate, Option, Some, None}
 use Rattle.std.specs.Prelude.{ℤ, pos, negsuc}
 use Rattle.std.specs.List.{starts_with}
 use Rattle.std.specs.Ordering.{nat_cmp}
@@ -55,3 +55,32 @@ number_of_byte _ = Traps SubstringOutOfRange
 abbrev pub byte_of_number : ℤ → Outcome Scalar
 byte_of_number (pos n) = if nat_lt n 256 then Gives (Characters (n ∷ [])) else Traps BadCharacterCode
 byte_of_number (negsuc n) = Traps BadCharacterCode
+
+-- Two texts of one length are the same, or this is the first place where they differ, with the bytes there.
+pub record IsFirstDifference (xs ys : List ℕ) (a b : ℕ) : Type 0 where
+  pub front : List ℕ
+  pub rest : List ℕ
+  pub other_rest : List ℕ
+  pub is : xs ≡ front ++ a ∷ rest
+  pub other_is : ys ≡ front ++ b ∷ other_rest
+  pub apart : a ≢ b
+
+abbrev pub DifferAt : List ℕ → List ℕ → Option (ℕ × ℕ) → Type 0
+DifferAt xs ys None = xs ≡ ys
+DifferAt xs ys (Some (a, b)) = IsFirstDifference xs ys a b
+
+-- What is left of a text without the blanks at its end: only blanks follow, and it does not end in one.
+pub record IsTrimmed (text left : List ℕ) : Type 0 where
+  pub blanks : ℕ
+  pub is : text ≡ left ++ replicate blanks 32
+  pub no_blank : (front : List ℕ) → left ≢ front ++ 32 ∷ []
+
+-- The part stands in the text behind so many bytes.
+abbrev pub StandsAt : List ℕ → List ℕ → ℕ → Type 0
+StandsAt part text k = starts_with nat_eq (drop k text) part ≡ true
+
+-- The least place, counted from 1, at which the part stands in the text; 0 where there is none.
+pub record IsPlace (part text : List ℕ) (place : ℕ) : Type 0 where
+  pub stands : (k : ℕ) → place ≡ k + 1 → StandsAt part text k
+  pub least : (k : ℕ) → k + 1 < place → ¬ StandsAt part text k
+  pub none : place ≡ 0 → (k : ℕ) → k ≤ length text → ¬ StandsAt part text k

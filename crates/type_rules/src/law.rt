@@ -1,5 +1,6 @@
 //! Laws of the definitions, for the crates above. None of these functions does anything.
-ghost use Rattle.std.specs.Prelude.{◌≡◌, ℕ, ℤ, Ok, Some, ◌+ℤ◌, ◌*ℤ◌, List, map, true};
+ghost use Rattle.std.specs.Prelude.{◌≡◌, ℕ, ℤ, Ok, Some, ◌+ℤ◌, ◌*ℤ◌, List, length, map, true};
+ghost use Rattle.type_rules.specs.Characters.{first_difference, DifferAt, trimmed, IsTrimmed, place_from, IsPlace};
 ghost use Rattle.type_rules.specs.Store.{Single, Value, Step, value_at, with_value};
 ghost use Rattle.type_rules.specs.Arrays.{operation_on, single, OfEmpty};
 ghost use Rattle.type_rules.specs.Operations.{operation};
@@ -56,3 +57,21 @@ pub fn written_is_read()
 pub fn gives_constants()
     ensures { (op : Op) (args : List Const) (c : Const) → are_constants args ≡ true → constant_given (operation op (map scalar_of args)) ≡ Some c → is_constant c ≡ true }
 {}
+
+/// The order of two texts of one length is that of the bytes at the first place where they differ.
+pub fn first_difference_is()
+    ensures { (xs ys : List ℕ) → length xs ≡ length ys → DifferAt xs ys (first_difference xs ys) }
+{
+}
+
+/// What `trim` leaves is followed by blanks alone, and does not end in one.
+pub fn trimmed_is()
+    ensures { (text : List ℕ) → IsTrimmed text (trimmed text) }
+{
+}
+
+/// `index` is the least place at which the part stands, or 0.
+pub fn place_is()
+    ensures { (part text : List ℕ) → IsPlace part text (place_from 1 part text) }
+{
+}

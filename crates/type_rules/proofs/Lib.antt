@@ -9,3 +9,5 @@ pub mod Arrays
 pub mod Places
 pub mod Values
 pub mod TextLaws
+pub mod Resolution
+pub mod Instances

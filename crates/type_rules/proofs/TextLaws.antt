@@ -22,7 +22,7 @@ differ_at (x ∷ xs) (y ∷ ys) e = by (x == y) refl (differ_at xs ys (omega ari
   where
     by : (t : Bool) → (x == y) ≡ t → DifferAt xs ys (first_difference xs ys) → DifferAt (x ∷ xs) (y ∷ ys) (if t then first_difference xs ys else Some (x, y))
     by true p h = let e : x ≡ y = grind arith in rw (← e) (one_more x xs ys (first_difference xs ys) h)
-    by false p h = record { front = []; rest = xs; other_rest = ys; is = refl; other_is = refl; apart = λ f. absurd (grind arith); }
+    by false p h = record { front = []; rest = xs; other_rest = ys; is = refl; other_is = refl; apart = λ f. absurd (grind arith) }
 
 no_end : (front : List ℕ) → [] ≢ front ++ 32 ∷ []
 no_end [] e = cc
@@ -42,12 +42,12 @@ before b bs [] h = by (b == 32) refl
     by : (t : Bool) → (b == 32) ≡ t → IsTrimmed (b ∷ bs) (if t then [] else b ∷ [])
     by true p =
         let e : b ≡ 32 = grind arith in
-        record { blanks = suc h.blanks; is = ap (λ zs. b ∷ zs) h.is ∙ ap (λ x. x ∷ replicate h.blanks 32) e; no_blank = no_end; }
-    by false p = record { blanks = h.blanks; is = ap (λ zs. b ∷ zs) h.is; no_blank = one_end b (λ e. absurd (grind arith)); }
-before b bs (c ∷ cs) h = record { blanks = h.blanks; is = ap (λ zs. b ∷ zs) h.is; no_blank = more_end b c cs h.no_blank; }
+        record { blanks = suc h.blanks; is = ap (λ zs. b ∷ zs) h.is ∙ ap (λ x. x ∷ replicate h.blanks 32) e; no_blank = no_end }
+    by false p = record { blanks = h.blanks; is = ap (λ zs. b ∷ zs) h.is; no_blank = one_end b (λ e. absurd (grind arith)) }
+before b bs (c ∷ cs) h = record { blanks = h.blanks; is = ap (λ zs. b ∷ zs) h.is; no_blank = more_end b c cs h.no_blank }
 
 pub is_trimmed : (text : List ℕ) → IsTrimmed text (trimmed text)
-is_trimmed [] = record { blanks = 0; is = refl; no_blank = no_end; }
+is_trimmed [] = record { blanks = 0; is = refl; no_blank = no_end }
 is_trimmed (b ∷ bs) = before b bs (trimmed bs) (is_trimmed bs)
 
 -- The least place in what is left of the text, where places are counted from a number above 0.
@@ -79,9 +79,11 @@ further at part c cs place some away h = record {
         let l = h.low n in
         absurd (omega arith)
     stands (suc k) e = h.stands k (omega arith)
+
     least : (k : ℕ) → at + k < place → ¬ StandsAt part (c ∷ cs) k
     least zero l = away
     least (suc k) l = h.least k (omega arith)
+
     none : place ≡ 0 → (k : ℕ) → k ≤ length (c ∷ cs) → ¬ StandsAt part (c ∷ cs) k
     none e zero l = away
     none e (suc k) l = h.none e k (omega arith)
@@ -93,6 +95,7 @@ at_end at (p ∷ ps) h = by (suc (length ps) == 0) refl
     never : (k : ℕ) → k ≤ 0 → ¬ StandsAt (p ∷ ps) [] k
     never zero l e = cc
     never (suc k) l e = absurd (omega arith)
+
     by : (t : Bool) → (suc (length ps) == 0) ≡ t → PlaceFrom at (p ∷ ps) [] (if t then at else 0)
     by true e = absurd (grind arith)
     by false e = record {

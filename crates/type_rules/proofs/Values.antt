@@ -7,7 +7,7 @@ use Rattle.std.specs.declared.cmp.Ordering.{Ordering}
 use Rattle.type_rules.specs.Values.{Scalar, Integer, Logical, Characters, Outcome, Gives, Traps, NoRule, Exact, fitted, is_in_kind, is_kind, is_constant, are_constants, scalar_of, constant_of}
 use Rattle.type_rules.specs.Characters.{text_order, concatenated, trimmed, place_from, number_of_byte, byte_of_number}
 use Rattle.type_rules.specs.Operations.{is_less, is_equal, same_truth, relation, on_integers, on_logicals, on_texts, binary, on_integer, on_logical, unary, number, numbered, of_integer, of_text, of_one, of_integers, of_texts, of_two, extreme, extreme_of, picked, of_many, intrinsic, convert, where_known, operation}
-use Rattle.type_rules.specs.Folds.{constant_given}
+use Rattle.type_rules.specs.Folds.{constant_given, Folds}
 use Rattle.type_rules.specs.Codes.{operator_of, intrinsic_of}
 use Rattle.type_rules.proofs.Texts.{trimmed_short}
 use Rattle.type_rules.specs.declared.code.Operator.{Operator}
@@ -16,6 +16,8 @@ use Rattle.type_rules.specs.declared.code.Intrinsic.{Intrinsic}
 use Rattle.type_rules.specs.declared.code.Intrinsic.TheVariants.{Abs, Mod, Modulo, Min, Max, Sign, Iachar, Achar, Len, LenTrim, Trim, Index}
 use Rattle.type_rules.specs.declared.constant.Const.{Const}
 use Rattle.type_rules.specs.declared.constant.Const.TheVariants.{IntConst, LogConst, CharConst}
+use Rattle.std.specs.Prelude.{Result, IfOk}
+use Rattle.type_rules.specs.declared.constant.TypeFault.{TypeFault}
 use Rattle.type_rules.specs.declared.constant.Op.{Op}
 use Rattle.type_rules.specs.declared.constant.Op.TheVariants.{Unary, Binary, Intrinsic as IntrinsicOf, Convert}
 use Rattle.type_rules.specs.declared.trap.Trap.TheVariants.{IntegerOverflow, LengthLimit, BadCharacterCode}
@@ -260,3 +262,7 @@ given_value NoRule c h e = cc
 
 pub gives_constants : (op : Op) (args : List Const) (c : Const) → are_constants args ≡ true → constant_given (operation op (map scalar_of args)) ≡ Some c → is_constant c ≡ true
 gives_constants op args c h e = given_value (operation op (map scalar_of args)) c (operation_value op (map scalar_of args) (all_same args h)) e
+
+pub folds_constant : (op : Op) (args : List Const) (r : Result Const TypeFault) → Folds r (operation op (map scalar_of args)) → are_constants args ≡ true → IfOk r (λ c. is_constant c ≡ true)
+folds_constant op args (Ok c) h e = gives_constants op args c e h
+folds_constant op args (Err fault) h e = tt

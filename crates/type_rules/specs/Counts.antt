@@ -1,5 +1,5 @@
 -- The turns of a loop and the elements of a section (ISO/IEC 1539-1:2018, 11.1.7.4.1 and 9.5.3.3.2).
-use Rattle.std.specs.Prelude.{ℕ, ℤ, pos, negsuc, ◌+ℤ◌, ◌-ℤ◌, ◌*ℤ◌, ◌==◌, int_le, int_div, unsigned_abs, Bool, ◌&&◌, if◌then◌else◌}
+use Rattle.std.specs.Prelude.{◌≡◌, ℕ, ℤ, pos, negsuc, ◌+ℤ◌, ◌-ℤ◌, ◌*ℤ◌, ◌==◌, int_le, int_div, unsigned_abs, Bool, true, ◌&&◌, if◌then◌else◌}
 use Rattle.type_rules.specs.Values.{Outcome, Gives, Traps, and_then, is_in_kind}
 use Rattle.type_rules.specs.declared.trap.Trap.TheVariants.{SubscriptOutOfRange, ZeroStep}
 
@@ -24,3 +24,8 @@ section_count first last step lower upper =
     else if is_within lower upper first && is_within lower upper (first +ℤ (pos n -ℤ pos 1) *ℤ step) then Gives n
     else Traps SubscriptOutOfRange)
     else Traps SubscriptOutOfRange
+
+-- The first and the last of so many elements stand within the bounds.
+pub record IsWithinBounds (first step lower upper : ℤ) (n : ℕ) : Type 0 where
+  pub first_in : is_within lower upper first ≡ true
+  pub last_in : is_within lower upper (first +ℤ (pos n -ℤ pos 1) *ℤ step) ≡ true

@@ -1,7 +1,7 @@
 //! The folding of constants.
-ghost use Rattle.std.specs.Prelude.{◌≡◌, map, max};
+ghost use Rattle.std.specs.Prelude.{◌≡◌, map, max, true, IfOk};
 ghost use Rattle.std.specs.Int.{int_min, int_max};
-ghost use Rattle.type_rules.specs.Values.{scalar_of};
+ghost use Rattle.type_rules.specs.Values.{scalar_of, is_constant, are_constants};
 ghost use Rattle.type_rules.specs.Operations.{operation, unary, binary, intrinsic, of_one, of_integer, of_two, of_many, extreme, extreme_of, convert};
 ghost use Rattle.type_rules.specs.Folds.{Folds};
 
@@ -11,11 +11,21 @@ use crate::constant::{Const, Op, TypeFault};
 use crate::{character, integer, scalar};
 use std::alloc::Global;
 
-/// The value of an operation on constants, element by element of none: it takes scalars alone. It
-/// answers E416 where the operation traps as `LengthLimit`, E415 where it traps otherwise, and E401
-/// where the table has no rule for these operands. It is the table of `specs/Operations.antt`, which
-/// restates ISO/IEC 1539-1:2018, 10.1.5 and 16.9.
+/// The value of an operation on constants. It answers E416 exactly where the operation traps as
+/// `LengthLimit`, E415 exactly where it traps otherwise, and E401 exactly where the table has no rule for
+/// these operands, as for those functions that reduce an array. Want of memory comes for characters
+/// alone. The table is `operation` of specs/Operations.antt, which restates ISO/IEC 1539-1:2018, 10.1.5
+/// and 16.9. It takes time linear in the operands, but `index`, which may take the product of the two
+/// lengths; a power takes at most 64 multiplications.
 pub fn fold(alloc: Global, op: Op, args: &[Const]) -> Result<Const, TypeFault>
+    ensures table { Folds result (operation op (map scalar_of args.now)) }
+    // a constant of constants: an integer fits its kind, a logical is 0 or 1, a text is not too long
+    ensures value { are_constants args.now ≡ true → IfOk result (λ c. is_constant c ≡ true) }
+{
+    folded(alloc, op, args)
+}
+
+fn folded(alloc: Global, op: Op, args: &[Const]) -> Folded
     ensures { Folds result (operation op (map scalar_of args.now)) }
 {
     match op {

@@ -1,7 +1,7 @@
 //! Matching by type, kind and rank, and the choice of a specific procedure.
 ghost use Rattle.std.specs.Prelude.{◌≡◌, map};
 ghost use Rattle.type_rules.specs.Types.{same, same_element};
-ghost use Rattle.type_rules.specs.Matching.{matches, are_distinguishable, match_from};
+ghost use Rattle.type_rules.specs.Matching.{matches, are_distinguishable, match_from, ArePairwiseDistinguishable, Resolves};
 
 use crate::ty::{Elem, Ty};
 
@@ -64,10 +64,18 @@ fn matches(dummies: &[Ty], args: &[Ty]) -> bool
     others.is_empty()
 }
 
-/// The place of the specific procedure whose dummies the arguments match, or `None` where no specific
-/// matches (ISO/IEC 1539-1:2018, 15.5.5.2). Where the specifics are pairwise distinguishable there is
-/// no other that matches.
+/// The place of the specific procedure whose dummies the arguments match, or `None` exactly where no
+/// specific matches (ISO/IEC 1539-1:2018, 15.5.5.2). Where the specifics are pairwise distinguishable
+/// there is no other that matches; else it is the first.
 pub fn resolve_generic(specifics: &[Vec<Ty>], args: &[Ty]) -> Option<usize>
+    ensures first { result ≡ match_from 0 (map (λ s. s.items) specifics.now) args.now }
+    // the one that matches, or none
+    ensures only { ArePairwiseDistinguishable (map (λ s. s.items) specifics.now) → Resolves (map (λ s. s.items) specifics.now) args.now result }
+{
+    first_match(specifics, args)
+}
+
+fn first_match(specifics: &[Vec<Ty>], args: &[Ty]) -> Option<usize>
     ensures { result ≡ match_from 0 (map (λ s. s.items) specifics.now) args.now }
 {
     for i in 0..specifics.len() {

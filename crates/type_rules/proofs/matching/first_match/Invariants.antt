@@ -1,6 +1,6 @@
 use Rattle.std.proofs.Common.{◌≡◌, drop, map}
 use Rattle.type_rules.specs.Matching.{match_from}
-use Rattle.type_rules.proofs.matching.resolve_generic.Given as goal
+use Rattle.type_rules.proofs.matching.first_match.Given as goal
 
 abbrev pub invariant-loop-i : goal.invariant-loop-i
 invariant-loop-i l = match_from l.i (map (λ s. s.items) (drop l.i l.specifics)) l.args ≡ match_from 0 (map (λ s. s.items) l.specifics) l.args

@@ -1,0 +1,5 @@
+use Rattle.type_rules.proofs.Instances.{within_bounds}
+use Rattle.type_rules.proofs.law.sections_are_within.Goals as goal
+
+pub returns : goal.returns
+returns c = within_bounds

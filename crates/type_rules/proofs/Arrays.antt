@@ -1,13 +1,11 @@
 -- The table on values, at scalars and at arrays without elements.
-use Rattle.std.proofs.Common.{◌≡◌, ℕ, refl, ap, ℤ, pos, List, [], ◌∷◌, map, Option, Some, None, ◌∙◌}
+use Rattle.std.proofs.Common.{◌≡◌, ℕ, refl, ap, List, [], ◌∷◌, map, Some}
 use Rattle.std.specs.Option.{option_map}
-use Rattle.type_rules.specs.Values.{Scalar, Integer, Logical, Outcome, Gives, least, greatest}
-use Rattle.type_rules.specs.Store.{Value, Single, Array, none}
+use Rattle.type_rules.specs.Values.{Scalar}
+use Rattle.type_rules.specs.Store.{Single}
 use Rattle.type_rules.specs.Arrays.{operation_on, single, scalars_of, on_values, OfEmpty}
 use Rattle.type_rules.specs.Operations.{operation}
 use Rattle.type_rules.specs.declared.constant.Op.{Op}
-use Rattle.type_rules.specs.declared.constant.Op.TheVariants.{Intrinsic}
-use Rattle.type_rules.specs.declared.ty.Elem.TheVariants as elem
 
 all_scalars : (args : List Scalar) → scalars_of (map Single args) ≡ Some args
 all_scalars [] = refl

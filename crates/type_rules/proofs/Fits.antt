@@ -1,5 +1,5 @@
 -- A result that fits its kind is the exact one.
-use Rattle.std.proofs.Common.{◌≡◌, ℕ, Bool, true, false, refl, ℤ, Ok, Err, if◌then◌else◌}
+use Rattle.std.proofs.Common.{◌≡◌, ℕ, Bool, true, false, refl, Ok, Err, if◌then◌else◌}
 use Rattle.type_rules.specs.Values.{Exact, Scalar, Integer, Outcome, Gives, Traps, fitted, is_in_kind, IsExact}
 use Rattle.type_rules.specs.declared.trap.Trap.TheVariants.{IntegerOverflow}
 

@@ -1,5 +1,5 @@
 -- Two specific procedures that are distinguishable never match the same arguments.
-use Rattle.std.proofs.Common.{◌≡◌, ℕ, Bool, true, false, not, ◌&&◌, ◌||◌, refl, sym, ◌∙◌, ap, arith, List, [], ◌∷◌, length, ◌==◌}
+use Rattle.std.proofs.Common.{◌≡◌, ℕ, Bool, true, false, not, ◌&&◌, ◌||◌, refl, arith, List, [], ◌∷◌, length, ◌==◌}
 use Rattle.type_rules.specs.Types.{same, same_element}
 use Rattle.type_rules.specs.Matching.{matches, are_distinguishable}
 use Rattle.type_rules.specs.declared.ty.Ty.{Ty}

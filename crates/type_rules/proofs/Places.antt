@@ -1,13 +1,11 @@
 -- The store: what was written at a place is read there, and the other instances keep what they hold.
-use Rattle.std.proofs.Common.{◌≡◌, ℕ, zero, suc, ◌+◌, ◌≤◌, Bool, true, false, ◌&&◌, refl, sym, ◌∙◌, ap, subst, cond, arith, List, [], ◌∷◌, ◌++◌, length, take, drop, ◌==◌, nat_le, if◌then◌else◌, Option, Some, None, append_assoc, length-append, length-take}
+use Rattle.std.proofs.Common.{◌≡◌, ℕ, zero, suc, ◌+◌, ◌≤◌, Bool, true, false, ◌&&◌, refl, sym, ◌∙◌, ap, subst, arith, List, [], ◌∷◌, ◌++◌, length, take, drop, ◌==◌, nat_le, if◌then◌else◌, Option, Some, None, append_assoc, length-append, length-take}
 use Rattle.std.specs.Option.{option_map, option_and_then}
 use Rattle.std.specs.Str.{bytes_eq}
-use Rattle.std.specs.FinMap.{get, insert, get-insert}
-use Rattle.std.specs.Ordering.{nat_cmp}
 use Rattle.std.proofs.lemmas.Option.{option_and_then_some}
 use Rattle.std.proofs.Math.Seq.{drop-append_seam, take-append_seam}
-use Rattle.type_rules.specs.Values.{Scalar, Integer, Logical, Characters}
-use Rattle.type_rules.specs.Store.{Value, Single, Array, Record, Values, none, more, Components, no_component, component, nth, with_nth, component_of, with_component, offset_in, Step, Component, Element, Bytes, cut_of, part_of, spliced, with_part, value_at, with_value, Place, Store, read, write}
+use Rattle.type_rules.specs.Values.{Characters}
+use Rattle.type_rules.specs.Store.{Value, Single, Array, Record, Values, none, more, Components, no_component, component, nth, with_nth, component_of, with_component, offset_in, Step, Component, Element, Bytes, cut_of, part_of, spliced, with_part, value_at, with_value}
 
 nth_with : (vs : Values) (k : ℕ) (old new : Value) → nth vs k ≡ Some old → nth (with_nth vs k new) k ≡ Some new
 nth_with none k old new e = cc

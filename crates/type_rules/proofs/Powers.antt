@@ -1,12 +1,9 @@
 -- Powers of integers: those of -1, 0 and 1, and how the others grow.
-use Rattle.std.proofs.Common.{◌≡◌, ℕ, zero, suc, ◌+◌, ◌-◌, ◌*◌, ◌%◌, ◌/◌, ◌≤◌, ◌<◌, ◌^◌, Bool, true, false, ◌&&◌, refl, sym, ◌∙◌, ap, subst, arith, rules, ℤ, pos, negsuc, ◌*ℤ◌, ◌≤ℤ◌, ◌<ℤ◌, ◌==◌, Ok, Err, Option, Some, None, if◌then◌else◌}
-use Rattle.std.specs.Prelude.{unsigned_abs, int_le, int_lt, int_div}
+use Rattle.std.proofs.Common.{◌≡◌, ℕ, zero, suc, ◌+◌, ◌-◌, ◌*◌, ◌%◌, ◌≤◌, ◌<◌, Bool, true, false, ◌&&◌, refl, sym, ◌∙◌, ap, arith, ℤ, pos, negsuc, ◌*ℤ◌, ◌==◌, if◌then◌else◌}
+use Rattle.std.specs.Prelude.{unsigned_abs, int_le}
 use Rattle.std.proofs.lemmas.Int.{ints, unsigned_abs-mul}
-use Rattle.type_rules.specs.Values.{is_in_kind, fitted, Gives, Traps, Exact, Outcome, Scalar, Integer}
-use Rattle.type_rules.specs.Integers.{product_of, power, quotient}
-use Rattle.type_rules.specs.Powers.{IsProduct, FitsAlike}
-use Rattle.type_rules.specs.declared.trap.Trap.TheVariants.{IntegerOverflow, DivisionByZero}
-use Rattle.type_rules.specs.declared.trap.Trap.{Trap}
+use Rattle.type_rules.specs.Values.{is_in_kind}
+use Rattle.type_rules.specs.Integers.{product_of}
 
 pub of_zero : (n : ℕ) → 0 < n → product_of (pos 0) n ≡ pos 0
 of_zero zero h = absurd (omega arith)

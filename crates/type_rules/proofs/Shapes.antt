@@ -1,5 +1,5 @@
 -- Shapes where one list of dimensions ends.
-use Rattle.std.proofs.Common.{◌≡◌, ◌<◌, Bool, false, refl, sym, ◌∙◌, arith, List, [], ◌∷◌, ◌++◌, length, append-nil}
+use Rattle.std.proofs.Common.{◌≡◌, ◌<◌, Bool, false, sym, ◌∙◌, arith, List, [], ◌∷◌, ◌++◌, length, append-nil}
 use Rattle.type_rules.specs.Types.{joined_dims, extents_apart}
 use Rattle.type_rules.specs.declared.ty.Dim.{Dim}
 

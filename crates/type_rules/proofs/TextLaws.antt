@@ -1,7 +1,7 @@
 -- Texts in the terms of the standard: the first difference, what is left without blanks at the end, the least place.
-use Rattle.std.proofs.Common.{◌≡◌, ◌≢◌, ℕ, zero, suc, ◌+◌, ◌≤◌, ◌<◌, Bool, true, false, refl, sym, ◌∙◌, ap, arith, List, [], ◌∷◌, ◌++◌, length, drop, replicate, ◌==◌, nat_eq, if◌then◌else◌, Option, Some, None}
+use Rattle.std.proofs.Common.{◌≡◌, ◌≢◌, ℕ, zero, suc, ◌+◌, ◌≤◌, ◌<◌, Bool, true, false, refl, ◌∙◌, ap, arith, List, [], ◌∷◌, ◌++◌, length, replicate, ◌==◌, nat_eq, if◌then◌else◌, Option, Some, None}
 use Rattle.std.specs.List.{starts_with}
-use Rattle.type_rules.specs.Characters.{first_difference, IsFirstDifference, DifferAt, before_trimmed, trimmed, IsTrimmed, place_from, StandsAt, IsPlace}
+use Rattle.type_rules.specs.Characters.{first_difference, DifferAt, before_trimmed, trimmed, IsTrimmed, place_from, StandsAt, IsPlace}
 
 one_more : (x : ℕ) (xs ys : List ℕ) (o : Option (ℕ × ℕ)) → DifferAt xs ys o → DifferAt (x ∷ xs) (x ∷ ys) o
 one_more x xs ys None h = ap (λ zs. x ∷ zs) h

@@ -1,8 +1,7 @@
 -- Texts: padding, the first difference, what is left without blanks at the end, and the place of a part.
-use Rattle.std.proofs.Common.{◌≡◌, ℕ, zero, suc, ◌+◌, ◌-◌, ◌≤◌, ◌<◌, Bool, true, false, refl, sym, ◌∙◌, ap, subst, arith, List, [], ◌∷◌, ◌++◌, length, get_or, take, drop, replicate, ◌==◌, nat_eq, if◌then◌else◌, Option, Some, None, add-one, length-append, rules}
+use Rattle.std.proofs.Common.{◌≡◌, ℕ, zero, suc, ◌+◌, ◌-◌, ◌≤◌, ◌<◌, Bool, true, false, refl, sym, ◌∙◌, ap, arith, List, [], ◌∷◌, ◌++◌, length, get_or, take, drop, replicate, ◌==◌, nat_eq, if◌then◌else◌, Some, add-one, length-append}
 use Rattle.std.proofs.lemmas.List.{get_or_append_left, get_or-append_right, get_or-replicate, length-replicate, get_or_past, get_or_default}
 use Rattle.std.proofs.Math.Seq.{drop-cons, take-suc}
-use Rattle.std.proofs.lemmas.List.{drop_all}
 use Rattle.std.specs.List.{starts_with}
 use Rattle.std.proofs.Common.{◌⊎◌, inl, inr, length-take}
 use Rattle.type_rules.specs.Characters.{padded, first_difference, before_trimmed, trimmed, place_from}

@@ -1,5 +1,5 @@
 -- Operations on values give values.
-use Rattle.std.proofs.Common.{◌≡◌, ℕ, ◌+◌, ◌≤◌, max, Bool, true, false, not, ◌&&◌, ◌||◌, refl, sym, ◌∙◌, ap, subst, arith, ℤ, pos, negsuc, List, [], ◌∷◌, ◌++◌, map, length, ◌==◌, nat_le, nat_lt, if◌then◌else◌, Option, Some, None, Ok, Err, length-append, ◌⊎◌, inl, inr, ◌+ℤ◌, ◌-ℤ◌, ◌*ℤ◌, neg_ℤ}
+use Rattle.std.proofs.Common.{◌≡◌, ℕ, ◌+◌, ◌≤◌, max, Bool, true, false, not, ◌&&◌, ◌||◌, refl, ◌∙◌, ap, subst, arith, ℤ, pos, negsuc, List, [], ◌∷◌, ◌++◌, map, length, ◌==◌, nat_le, nat_lt, if◌then◌else◌, Option, Some, None, Ok, Err, length-append, ◌⊎◌, inl, inr, ◌+ℤ◌, ◌-ℤ◌, ◌*ℤ◌, neg_ℤ}
 use Rattle.type_rules.specs.Integers.{quotient, remainder, modulo, power, magnitude, sign}
 use Rattle.std.specs.Ordering.{int_cmp}
 use Rattle.std.specs.Int.{int_min, int_max}

@@ -1,20 +1,20 @@
 -- The table of operations on values: on scalars, element by element on arrays, and the functions that reduce an array
 -- (ISO/IEC 1539-1:2018, 10.1.5, 10.1.9 and 16.9: ALL, ANY, COUNT, MAXVAL, MINVAL, PRODUCT, SUM).
-use Rattle.std.specs.Prelude.{◌≡◌, ℕ, zero, suc, ℤ, pos, ◌+◌, ◌*◌, max, ◌==◌, nat_eq, Bool, true, false, ◌&&◌, ◌||◌, not, if◌then◌else◌, List, [], ◌∷◌, length, Option, Some, None}
+use Rattle.std.specs.Prelude.{◌≡◌, ℕ, zero, suc, ℤ, pos, ◌+◌, ◌*◌, max, ◌==◌, Bool, true, false, ◌&&◌, ◌||◌, if◌then◌else◌, List, [], ◌∷◌, length, Option, Some, None}
 use Rattle.std.specs.Option.{option_map, option_and_then}
 use Rattle.std.specs.Int.{int_min, int_max}
-use Rattle.type_rules.specs.Values.{Scalar, Integer, Logical, Characters, Outcome, Gives, Traps, NoRule, and_then, greatest, least, fitted}
+use Rattle.type_rules.specs.Values.{Scalar, Integer, Logical, Characters, Outcome, Gives, Traps, NoRule, and_then, greatest, least}
 use Rattle.type_rules.specs.Store.{Value, Single, Array, Record, Values, none, more, nth}
 use Rattle.type_rules.specs.Codes.{operator_of, intrinsic_of}
 use Rattle.type_rules.specs.Types.{element_of}
-use Rattle.type_rules.specs.Operations.{operation, on_integers, on_logicals}
+use Rattle.type_rules.specs.Operations.{operation, on_integers}
 use Rattle.type_rules.specs.declared.ty.Elem.{Elem}
 use Rattle.type_rules.specs.declared.ty.Elem.TheVariants as elem
 use Rattle.type_rules.specs.declared.ty.Len.TheVariants as len
 use Rattle.type_rules.specs.declared.code.Operator.{Operator}
-use Rattle.type_rules.specs.declared.code.Operator.TheVariants.{Add, Subtract, Multiply, Concatenate, And, Or, Not}
+use Rattle.type_rules.specs.declared.code.Operator.TheVariants.{Add, Subtract, Multiply, Concatenate, Not}
 use Rattle.type_rules.specs.declared.code.Intrinsic.{Intrinsic}
-use Rattle.type_rules.specs.declared.code.Intrinsic.TheVariants.{Abs, Mod, Modulo, Min, Max, Sign, Iachar, Achar, Len, LenTrim, Trim, Index, Sum, Product, Maxval, Minval, Count, Any, All}
+use Rattle.type_rules.specs.declared.code.Intrinsic.TheVariants.{Abs, Mod, Modulo, Min, Max, Sign, Iachar, Sum, Product, Maxval, Minval, Count, Any, All}
 use Rattle.type_rules.specs.declared.constant.Op.{Op}
 use Rattle.type_rules.specs.declared.constant.Op.TheVariants.{Unary, Binary, Intrinsic as IntrinsicOf, Convert}
 use Rattle.type_rules.specs.declared.trap.Trap.TheVariants.{ShapeMismatch}

@@ -7,7 +7,7 @@ use Rattle.type_rules.specs.declared.constant.Const.{Const}
 use Rattle.type_rules.specs.declared.constant.TypeFault.{TypeFault}
 use Rattle.type_rules.specs.declared.constant.TypeFault.TheVariants.{Rule as Broken, Memory}
 use Rattle.type_rules.specs.declared.trap.Trap.{Trap}
-use Rattle.type_rules.specs.declared.trap.Trap.TheVariants.{IntegerOverflow, DivisionByZero, SubscriptOutOfRange, SubstringOutOfRange, ShapeMismatch, ZeroStep, EndOfFile, LengthLimit, BadCharacterCode}
+use Rattle.type_rules.specs.declared.trap.Trap.TheVariants.{LengthLimit}
 
 -- The rule that a constant expression breaks by this trap: a limit, or a trap of another kind.
 abbrev pub rule_of : Trap → Rule

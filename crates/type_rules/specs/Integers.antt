@@ -1,5 +1,5 @@
 -- Operations on integers, exactly (ISO/IEC 1539-1:2018, 10.1.5.2 and 16.9: ABS, MOD, MODULO, SIGN).
-use Rattle.std.specs.Prelude.{◌≡◌, ℕ, zero, suc, ℤ, pos, negsuc, ◌+ℤ◌, ◌*ℤ◌, ◌<ℤ◌, ◌≤ℤ◌, ◌<◌, neg_ℤ, ◌==◌, Bool, true, false, if◌then◌else◌, int_lt, int_div, int_rem, unsigned_abs, Ok, Err}
+use Rattle.std.specs.Prelude.{◌≡◌, ℕ, zero, suc, ℤ, pos, negsuc, ◌+ℤ◌, ◌*ℤ◌, ◌<ℤ◌, ◌≤ℤ◌, ◌<◌, neg_ℤ, ◌==◌, if◌then◌else◌, int_lt, int_div, int_rem, unsigned_abs, Ok, Err}
 use Rattle.std.specs.Int.{int_rem_euclid}
 use Rattle.type_rules.specs.Values.{Exact}
 use Rattle.type_rules.specs.declared.trap.Trap.TheVariants.{DivisionByZero}

@@ -1,6 +1,6 @@
 -- The table of operations on scalars: what each operator, conversion and intrinsic function gives, and when it traps
 -- (ISO/IEC 1539-1:2018, 10.1.5, 10.1.9.3 and 16.9).
-use Rattle.std.specs.Prelude.{ℕ, ◌+◌, max, ◌==◌, ℤ, pos, ◌+ℤ◌, ◌-ℤ◌, ◌*ℤ◌, neg_ℤ, Bool, true, false, not, ◌&&◌, ◌||◌, ◌≡◌, if◌then◌else◌, List, [], ◌∷◌, length, Option, Some, None, Result, Ok, Err, nat_le}
+use Rattle.std.specs.Prelude.{ℕ, max, ◌==◌, ℤ, pos, ◌+ℤ◌, ◌-ℤ◌, ◌*ℤ◌, neg_ℤ, Bool, true, false, not, ◌&&◌, ◌||◌, if◌then◌else◌, List, [], ◌∷◌, length, Option, Some, None, Ok, nat_le}
 use Rattle.std.specs.Int.{int_min, int_max}
 use Rattle.std.specs.Ordering.{int_cmp}
 use Rattle.std.specs.declared.cmp.Ordering.{Ordering}
@@ -12,10 +12,9 @@ use Rattle.type_rules.specs.Characters.{text_order, concatenated, trimmed, place
 use Rattle.type_rules.specs.declared.code.Operator.{Operator}
 use Rattle.type_rules.specs.declared.code.Operator.TheVariants.{Add, Subtract, Multiply, Divide, Power, Concatenate, Eq, Ne, Lt, Le, Gt, Ge, And, Or, Eqv, Neqv, Not}
 use Rattle.type_rules.specs.declared.code.Intrinsic.{Intrinsic}
-use Rattle.type_rules.specs.declared.code.Intrinsic.TheVariants.{Abs, Mod, Modulo, Min, Max, Sign, Iachar, Achar, Len, LenTrim, Trim, Index, Sum, Product, Maxval, Minval, Count, Any, All}
+use Rattle.type_rules.specs.declared.code.Intrinsic.TheVariants.{Abs, Mod, Modulo, Min, Max, Sign, Iachar, Achar, Len, LenTrim, Trim, Index}
 use Rattle.type_rules.specs.declared.constant.Op.{Op}
 use Rattle.type_rules.specs.declared.constant.Op.TheVariants.{Unary, Binary, Intrinsic as IntrinsicOf, Convert}
-use Rattle.type_rules.specs.declared.trap.Trap.{Trap}
 
 abbrev pub truth : Bool → Outcome Scalar
 truth t = Gives (Logical t)

@@ -1,5 +1,5 @@
 -- What 64 bits hold of products and powers.
-use Rattle.std.specs.Prelude.{◌≡◌, ℕ, ℤ, Bool, false, Option, Some, None}
+use Rattle.std.specs.Prelude.{◌≡◌, ℕ, ℤ, false, Option, Some, None}
 use Rattle.type_rules.specs.Values.{Exact, is_in_kind, fitted}
 
 -- A number that 64 bits hold is the exact one, and none is one that they do not hold.

@@ -1,9 +1,8 @@
 -- Types: when two are the same, and the type of an operation (ISO/IEC 1539-1:2018, 10.1.9, and 10.1.5 for the types of the
 -- operands).
-use Rattle.std.specs.Prelude.{◌≡◌, ℕ, ◌+◌, ◌-◌, ◌^◌, min, max, ◌==◌, Bool, true, false, not, ◌&&◌, ◌||◌, map, pos, if◌then◌else◌, List, [], ◌∷◌, length, Option, Some, None, Result, Ok, Err}
+use Rattle.std.specs.Prelude.{◌≡◌, ℕ, ◌+◌, min, max, ◌==◌, Bool, true, false, not, ◌&&◌, ◌||◌, map, pos, if◌then◌else◌, List, [], ◌∷◌, length, Option, Some, None, Result, Ok, Err}
 use Rattle.lf_base.specs.declared.rule.Rule.{Rule}
 use Rattle.lf_base.specs.declared.rule.Rule.TheVariants.{E401, E404, E412}
-use Rattle.lf_base.specs.declared.id.SymId.{SymId}
 use Rattle.type_rules.specs.declared.ty.Ty.{Ty}
 use Rattle.type_rules.specs.declared.ty.Elem.{Elem}
 use Rattle.type_rules.specs.declared.ty.Elem.TheVariants.{Integer, Logical, Character, Derived}
@@ -12,9 +11,9 @@ use Rattle.type_rules.specs.declared.ty.Len.TheVariants as len
 use Rattle.type_rules.specs.declared.ty.Dim.{Dim}
 use Rattle.type_rules.specs.declared.ty.Dim.TheVariants as dim
 use Rattle.type_rules.specs.declared.code.Operator.{Operator}
-use Rattle.type_rules.specs.declared.code.Operator.TheVariants.{Add, Subtract, Multiply, Divide, Power, Concatenate, Eq, Ne, Lt, Le, Gt, Ge, And, Or, Eqv, Neqv, Not}
+use Rattle.type_rules.specs.declared.code.Operator.TheVariants.{Add, Subtract, Multiply, Divide, Power, Concatenate, Eq, Ne, Lt, Le, Gt, Ge, And, Or, Eqv, Neqv}
 use Rattle.type_rules.specs.declared.constant.Op.{Op}
-use Rattle.type_rules.specs.declared.constant.Op.TheVariants.{Unary, Binary, Intrinsic, Convert}
+use Rattle.type_rules.specs.declared.constant.Op.TheVariants.{Binary}
 use Rattle.type_rules.specs.declared.constant.TypeFault.{TypeFault}
 use Rattle.type_rules.specs.declared.constant.TypeFault.TheVariants.{Rule as Broken, Memory}
 use Rattle.type_rules.specs.Codes.{operator_of}

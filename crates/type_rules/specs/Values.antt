@@ -1,7 +1,7 @@
 -- Scalar values, and what an operation on values gives (ISO/IEC 1539-1:2018, 4.3 and 7.4).
-use Rattle.std.specs.Prelude.{◌≡◌, ℕ, ℤ, pos, negsuc, ◌==◌, Bool, true, false, not, ◌&&◌, ◌||◌, if◌then◌else◌, int_le, nat_le, length, List, [], ◌∷◌, Option, Some, None, Result, Ok, Err}
+use Rattle.std.specs.Prelude.{◌≡◌, ℕ, ℤ, pos, negsuc, ◌==◌, Bool, true, not, ◌&&◌, ◌||◌, if◌then◌else◌, int_le, nat_le, length, List, [], ◌∷◌, Result, Ok, Err}
 use Rattle.type_rules.specs.declared.trap.Trap.{Trap}
-use Rattle.type_rules.specs.declared.trap.Trap.TheVariants.{IntegerOverflow, DivisionByZero, SubscriptOutOfRange, SubstringOutOfRange, ShapeMismatch, ZeroStep, EndOfFile, LengthLimit, BadCharacterCode}
+use Rattle.type_rules.specs.declared.trap.Trap.TheVariants.{IntegerOverflow}
 use Rattle.type_rules.specs.declared.constant.Const.{Const}
 use Rattle.type_rules.specs.declared.constant.Const.TheVariants.{IntConst, LogConst, CharConst}
 

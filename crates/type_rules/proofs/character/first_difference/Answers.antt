@@ -1,4 +1,4 @@
-use Rattle.std.proofs.Common.{rules, arith, ◌∙◌, sym}
+use Rattle.std.proofs.Common.{arith, ◌∙◌, sym}
 use Rattle.type_rules.proofs.Texts.{differs_at, same_at}
 use Rattle.type_rules.proofs.character.first_difference.Goals as goal
 

@@ -1,4 +1,4 @@
-use Rattle.std.proofs.Common.{rules, arith, ◌∙◌, sym, ap, take, length-take}
+use Rattle.std.proofs.Common.{arith, ◌∙◌, ap, take, length-take}
 use Rattle.type_rules.proofs.Texts.{trimmed_front, trimmed_short}
 use Rattle.type_rules.proofs.character.trimmed.Goals as goal
 

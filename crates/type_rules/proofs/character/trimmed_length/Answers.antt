@@ -1,4 +1,4 @@
-use Rattle.std.proofs.Common.{rules, arith, ◌∙◌, sym}
+use Rattle.std.proofs.Common.{◌∙◌, sym}
 use Rattle.type_rules.proofs.Texts.{blank_more, byte_more}
 use Rattle.type_rules.proofs.character.trimmed_length.Goals as goal
 use Rattle.type_rules.proofs.character.trimmed_length.Goals.{then-text-i-ne-BLANK, else-text-i-ne-BLANK}

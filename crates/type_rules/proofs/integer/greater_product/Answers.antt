@@ -1,6 +1,6 @@
-use Rattle.std.proofs.Common.{rules, arith}
+use Rattle.std.proofs.Common.{arith}
 use Rattle.std.proofs.lemmas.Int.{to_z-of_z}
-use Rattle.type_rules.proofs.Powers.{beyond_at_end, product_step}
+use Rattle.type_rules.proofs.Powers.{beyond_at_end}
 use Rattle.type_rules.proofs.integer.greater_product.Goals as goal
 
 pub returns-in-None : goal.returns-in-None

@@ -1,4 +1,4 @@
-use Rattle.std.proofs.Common.{rules, arith}
+use Rattle.std.proofs.Common.{arith}
 use Rattle.std.proofs.lemmas.Int.{ints}
 use Rattle.type_rules.proofs.Powers.{of_minus_one_even, of_minus_one_odd, of_unit}
 use Rattle.type_rules.proofs.integer.unit_product.Goals as goal

@@ -1,4 +1,4 @@
-use Rattle.std.proofs.Common.{rules, arith, drop}
+use Rattle.std.proofs.Common.{arith, drop}
 use Rattle.type_rules.proofs.Shapes.{apart_end}
 use Rattle.type_rules.proofs.unifying.extents_apart.Goals as goal
 

@@ -1,4 +1,4 @@
-use Rattle.std.proofs.Common.{rules, ap, arith, drop, Ok}
+use Rattle.std.proofs.Common.{ap, arith, drop, Ok}
 use Rattle.type_rules.proofs.Shapes.{joined_end}
 use Rattle.type_rules.proofs.unifying.joined_dims.Goals as goal
 

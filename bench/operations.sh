@@ -63,10 +63,9 @@ def expression(op, args, kind):
 
 
 rows = []
-for line in open(sys.argv[1], encoding="utf-8"):
-    row = re.match(r"    \((\w+), &\[(.*)\], (.*)\),$", line)
-    if not row or not VALUE.fullmatch(row.group(3)):
-        continue
+text = open(sys.argv[1], encoding="utf-8").read()
+for row in re.finditer(r"\(\s*([A-Z]\w*),\s*&\[([^\]]*)\],\s*(" + VALUE.pattern + r"),?\s*\),", text):
+    line = re.sub(r"\s+", " ", row.group(0))
     op, args, want = row.group(1), list(VALUE.finditer(row.group(2))), VALUE.fullmatch(row.group(3))
     if op == "POWER" and all(arg.group(2) == "0" for arg in args):
         continue
@@ -81,7 +80,7 @@ for line in open(sys.argv[1], encoding="utf-8"):
         test = f"({got}) .eqv. {wanted}"
     else:
         test = f"same({got}, {wanted})"
-    rows.append((line.strip(), test))
+    rows.append((line, test))
 
 with open(sys.argv[2] + "/rows.f90", "w", encoding="utf-8") as out:
     out.write("program rows\nimplicit none\ninteger :: agree = 0\n")

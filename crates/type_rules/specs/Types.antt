@@ -137,8 +137,23 @@ abbrev pub result_type : Op → Ty → Ty → Result Ty Rule
 result_type (Binary code) a b = type_under (operator_of code) a b
 result_type _ a b = Err E401
 
--- What was answered is what there is, unless memory ran out.
-abbrev pub Answers : {T : Type 0} → Result T TypeFault → Result T Rule → Type 0
-Answers (Ok x) there = there ≡ Ok x
-Answers (Err (Broken rule)) there = there ≡ Err rule
-Answers (Err Memory) there = Unit {0}
+-- A shape takes memory where it is that of an array.
+abbrev pub TakesMemory : Result (List Dim) Rule → Type 0
+TakesMemory (Ok []) = ⊥
+TakesMemory (Ok (dim ∷ dims)) = Unit {0}
+TakesMemory (Err rule) = ⊥
+
+abbrev pub shape_in : Result Ty Rule → Result (List Dim) Rule
+shape_in (Ok ty) = Ok ty.dims
+shape_in (Err rule) = Err rule
+
+-- What was answered is what there is. Want of memory comes for arrays alone.
+abbrev pub Shapes : Result (List Dim) TypeFault → Result (List Dim) Rule → Type 0
+Shapes (Ok dims) there = there ≡ Ok dims
+Shapes (Err (Broken rule)) there = there ≡ Err rule
+Shapes (Err Memory) there = TakesMemory there
+
+abbrev pub Unifies : Result Ty TypeFault → Result Ty Rule → Type 0
+Unifies (Ok ty) there = there ≡ Ok ty
+Unifies (Err (Broken rule)) there = there ≡ Err rule
+Unifies (Err Memory) there = TakesMemory (shape_in there)

@@ -1,6 +1,6 @@
 //! The type of an operation.
 ghost use Rattle.std.specs.Prelude.{◌≡◌, ◌+◌, map, max, min};
-ghost use Rattle.type_rules.specs.Types.{element_of, of_integers, of_relation, arrays, type_under, of_logicals, of_characters, joined_length, from_one, joined_dim, joined_dims, known_apart, extents_apart, shape_of, scalars, shape_under, result_type, Answers};
+ghost use Rattle.type_rules.specs.Types.{element_of, of_integers, of_relation, arrays, type_under, of_logicals, of_characters, joined_length, from_one, joined_dim, joined_dims, known_apart, extents_apart, shape_of, scalars, shape_under, result_type, Shapes, Unifies};
 
 use crate::code::{Operator, operator_at};
 use crate::constant::{Op, TypeFault};
@@ -11,12 +11,12 @@ use std::alloc::Global;
 
 type Dims = Result<Items<Dim>, TypeFault>;
 
-/// The type of a binary operation. It answers E401 where no type comes of the types of the operands,
-/// else E404 where their ranks differ and none is a scalar, or where `//` has an array, else E412
-/// where two known extents differ. Other operations than binary ones have no type here: E401. It
-/// restates ISO/IEC 1539-1:2018, 10.1.9.
+/// The type of a binary operation. It answers E401 exactly where no type comes of the types of the
+/// operands, else E404 exactly where both are arrays of different rank, or where `//` has an array,
+/// else E412 exactly where two known extents differ. Other operations than binary ones have no type
+/// here: E401. Want of memory comes for arrays alone. It restates ISO/IEC 1539-1:2018, 10.1.9.
 pub fn unify(alloc: Global, op: Op, a: &Ty, b: &Ty) -> Result<Ty, TypeFault>
-    ensures { Answers result (result_type op a.now b.now) }
+    ensures { Unifies result (result_type op a.now b.now) }
 {
     match op {
         Op::Binary(code) => match operator_at(code) {
@@ -28,7 +28,7 @@ pub fn unify(alloc: Global, op: Op, a: &Ty, b: &Ty) -> Result<Ty, TypeFault>
 }
 
 fn type_under(alloc: Global, op: Operator, a: &Ty, b: &Ty) -> Result<Ty, TypeFault>
-    ensures { Answers result (type_under (Some op) a.now b.now) }
+    ensures { Unifies result (type_under (Some op) a.now b.now) }
 {
     match element_of(op, a.elem, b.elem) {
         Some(elem) => match shape_under(alloc, op, a.dims.as_slice(), b.dims.as_slice()) {
@@ -119,7 +119,7 @@ fn sum_of_lengths(m: u32, n: u32) -> u32
 }
 
 fn shape_under(alloc: Global, op: Operator, a: &[Dim], b: &[Dim]) -> Dims
-    ensures { Answers result (shape_under op a.now b.now) }
+    ensures { Shapes result (shape_under op a.now b.now) }
 {
     match op {
         Operator::Concatenate => scalars(alloc, a, b),
@@ -128,7 +128,7 @@ fn shape_under(alloc: Global, op: Operator, a: &[Dim], b: &[Dim]) -> Dims
 }
 
 fn scalars(alloc: Global, a: &[Dim], b: &[Dim]) -> Dims
-    ensures { Answers result (scalars a.now b.now) }
+    ensures { Shapes result (scalars a.now b.now) }
 {
     match (a, b) {
         ([], []) => Ok(Items::new(alloc)),
@@ -137,7 +137,7 @@ fn scalars(alloc: Global, a: &[Dim], b: &[Dim]) -> Dims
 }
 
 fn shape_of(alloc: Global, a: &[Dim], b: &[Dim]) -> Dims
-    ensures { Answers result (shape_of a.now b.now) }
+    ensures { Shapes result (shape_of a.now b.now) }
 {
     match (a, b) {
         ([], _) => from_one_each(alloc, b),
@@ -148,7 +148,7 @@ fn shape_of(alloc: Global, a: &[Dim], b: &[Dim]) -> Dims
 
 /// The shape of an operation on two arrays.
 fn arrays(alloc: Global, a: &[Dim], b: &[Dim]) -> Dims
-    ensures { Answers result (arrays a.now b.now) }
+    ensures { Shapes result (arrays a.now b.now) }
 {
     if a.len() != b.len() {
         return Err(TypeFault::Rule(Rule::E404));
@@ -160,7 +160,7 @@ fn arrays(alloc: Global, a: &[Dim], b: &[Dim]) -> Dims
 }
 
 fn from_one_each(alloc: Global, dims: &[Dim]) -> Dims
-    ensures { Answers result (Ok (map from_one dims.now)) }
+    ensures { Shapes result (Ok (map from_one dims.now)) }
 {
     let mut all = Items::new(alloc);
     for dim in dims {
@@ -181,7 +181,7 @@ fn from_one(dim: Dim) -> Dim
 }
 
 fn joined_dims(alloc: Global, a: &[Dim], b: &[Dim]) -> Dims
-    ensures { Answers result (Ok (joined_dims a.now b.now)) }
+    ensures { Shapes result (Ok (joined_dims a.now b.now)) }
 {
     let mut all = Items::new(alloc);
     let mut others = b;

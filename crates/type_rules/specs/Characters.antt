@@ -1,5 +1,9 @@
 -- Operations on characters, by their bytes (ISO/IEC 1539-1:2018, 10.1.5.3, 10.1.5.5 and 16.9: INDEX, LEN_TRIM, TRIM).
+<<<<<<< HEAD
 use Rattle.std.specs.Prelude.{◌≡◌, ◌≢◌, ℕ, ◌+◌, ◌-◌, ◌≤◌, ◌<◌, max, true, drop, ◌==◌, nat_eq, nat_le, nat_lt, if◌then◌else◌, List, [], ◌∷◌, ◌++◌, length, replicate, Option, Some, None}
+=======
+use Rattle.std.specs.Prelude.{◌≡◌, ◌≢◌, ℕ, ◌+◌, ◌-◌, ◌≤◌, ◌<◌, max, true, drop, take, ◌==◌, nat_eq, nat_le, nat_lt, if◌then◌else◌, List, [], ◌∷◌, ◌++◌, length, replicate, Option, Some, None}
+>>>>>>> 8613da9d89861fb4e7766b98ce372f94a3fc2840
 use Rattle.std.specs.Prelude.{ℤ, pos, negsuc}
 use Rattle.std.specs.List.{starts_with}
 use Rattle.std.specs.Ordering.{nat_cmp}
@@ -11,6 +15,10 @@ use Rattle.type_rules.specs.declared.trap.Trap.TheVariants.{SubstringOutOfRange,
 -- The text with blanks at its end, up to this length.
 abbrev pub padded : ℕ → List ℕ → List ℕ
 padded n text = text ++ replicate (n - length text) 32
+
+-- What a variable of this length holds of a text: the text is cut, or padded with blanks (10.2.1.3).
+abbrev pub in_length : ℕ → List ℕ → List ℕ
+in_length n text = take n (padded n text)
 
 -- The bytes at the first place where two texts of one length differ.
 abbrev pub first_difference : List ℕ → List ℕ → Option (ℕ × ℕ)

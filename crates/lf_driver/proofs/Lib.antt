@@ -10,3 +10,5 @@ pub mod Agrees
 pub mod Evaluates
 pub mod ProgramNames
 pub mod Temporaries
+pub mod SourceBounds
+pub mod HeadlineLemmas

@@ -8,3 +8,4 @@ pub mod Ends
 pub mod Verdict
 pub mod Compile
 pub mod Fortran
+pub mod Headline

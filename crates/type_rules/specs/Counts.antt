@@ -1,8 +1,4 @@
-<<<<<<< HEAD
--- The turns of a loop and the elements of a section (ISO/IEC 1539-1:2018, 11.1.7.4.1 and 9.5.3.3.2).
-=======
 -- The turns of a loop and the elements of a section (ISO/IEC 1539-1:2018, 11.1.7.4.1 and 9.5.3.3).
->>>>>>> 8613da9d89861fb4e7766b98ce372f94a3fc2840
 use Rattle.std.specs.Prelude.{◌≡◌, ℕ, ℤ, pos, negsuc, ◌+ℤ◌, ◌-ℤ◌, ◌*ℤ◌, ◌==◌, int_le, int_div, unsigned_abs, Bool, true, ◌&&◌, if◌then◌else◌}
 use Rattle.type_rules.specs.Values.{Outcome, Gives, Traps, and_then, is_in_kind}
 use Rattle.type_rules.specs.declared.trap.Trap.TheVariants.{SubscriptOutOfRange, ZeroStep}

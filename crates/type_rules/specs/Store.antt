@@ -1,8 +1,4 @@
-<<<<<<< HEAD
--- Values, places and the store (ISO/IEC 1539-1:2018, 4.3.1, 9.4, 9.5 and 15.5.2).
-=======
 -- Values, places and the store (ISO/IEC 1539-1:2018, 7.1, 9.4, 9.5 and 15.5.2).
->>>>>>> 8613da9d89861fb4e7766b98ce372f94a3fc2840
 use Rattle.std.specs.Prelude.{ℕ, zero, suc, ℤ, pos, ◌+◌, ◌*◌, ◌+ℤ◌, ◌-ℤ◌, ◌==◌, nat_lt, nat_le, int_le, int_lt, unsigned_abs, ◌&&◌, if◌then◌else◌, List, [], ◌∷◌, ◌++◌, length, take, drop, Option, Some, None}
 use Rattle.std.specs.Option.{option_map, option_and_then}
 use Rattle.std.specs.Str.{bytes_eq}

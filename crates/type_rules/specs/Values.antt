@@ -1,8 +1,4 @@
-<<<<<<< HEAD
--- Scalar values, and what an operation on values gives (ISO/IEC 1539-1:2018, 4.3 and 7.4).
-=======
 -- Scalar values, and what an operation on values gives (ISO/IEC 1539-1:2018, 7.1 and 7.4).
->>>>>>> 8613da9d89861fb4e7766b98ce372f94a3fc2840
 use Rattle.std.specs.Prelude.{◌≡◌, ℕ, ℤ, pos, negsuc, ◌==◌, Bool, true, not, ◌&&◌, ◌||◌, if◌then◌else◌, int_le, nat_le, length, List, [], ◌∷◌, Result, Ok, Err}
 use Rattle.type_rules.specs.declared.trap.Trap.{Trap}
 use Rattle.type_rules.specs.declared.trap.Trap.TheVariants.{IntegerOverflow}

@@ -1,0 +1,21 @@
+-- The headline, from the law on the printed C.
+use Rattle.std.proofs.Common.{◌≡◌, ℕ, List, [], ◌∷◌, Option, Some, None, Ok, ap, ◌∙◌}
+use Rattle.std.specs.FinMap.{get}
+use Rattle.lf_base.specs.Files.{Files}
+use Rattle.ff_lexer.specs.Statements.{statements_of}
+use Rattle.lf_driver.specs.Headline.{place_in, MeansTheSame, KeepsMeaning}
+use Rattle.lf_driver.specs.Source.{Source}
+use Rattle.lf_driver.specs.Verdict.{of_command, of_text, of_source, source_in}
+use Rattle.lf_driver.specs.Words.{words_of}
+use Rattle.lf_driver.specs.declared.command.Verb.TheVariants.{Compile}
+use Rattle.lf_driver.proofs.Agrees.{agrees}
+use Rattle.lf_driver.proofs.SourceBounds.{source_bounded}
+
+pub keeps_meaning : (words : List (List ℕ)) (told : Option Files) → KeepsMeaning words told
+keeps_meaning words None = tt
+keeps_meaning words (Some files) file text source is there holds =
+    let b = source_bounded text source holds in
+    record {
+      bytes = ap (λ o. of_command o files) is ∙ ap (λ o. of_text file o) there ∙ ap (λ j. of_source file j) holds;
+      agree = agrees (place_in file (statements_of text)) source b.0 b.1 b.2;
+    }

@@ -1,0 +1,3 @@
+program p
+print *, 2+3*4
+end program p

@@ -168,8 +168,8 @@ module _ (source : Source) (small : IsSmall source.value) (few : count source.va
       let s3 = s2 v vs fv in
       let w4 = w3 v vs fv in
       let body : run record_body start w0 ≡ Going None s3 w4 =
-          append_going n calls (printing_begins ++ lowered source.value 0) (printing_ends (count source.value)) start (at (v ∷ vs)) w0 w1 (append_going n calls printing_begins (lowered source.value 0) start (at []) w0 w1 begins ∙ h.3)
-          ∙ ends v vs fv (count source.value) (omega (arith, h.1, ap length (append-nil h.0))) in
+      append_going n calls (printing_begins ++ lowered source.value 0) (printing_ends (count source.value)) start (at (v ∷ vs)) w0 w1 (append_going n calls printing_begins (lowered source.value 0) start (at []) w0 w1 begins ∙ h.3)
+      ∙ ends v vs fv (count source.value) (omega (arith, h.1, ap length (append-nil h.0))) in
       let s4 = closed start s3 in
       ap outcome_of (bind_going (run (main_body source)) (λ flow. give (status_of flow)) start w0 (Some (Returned (Some (Number W32 (pos 0))))) s4 w4
       (order_next (doing (Call (init_name source.name) [])) (map doing rest_of) start w0 start w0 init_runs
@@ -177,7 +177,7 @@ module _ (source : Source) (small : IsSmall source.value) (few : count source.va
       ∙ order_left (doing (ReturnValue (Constant 0))) [] s4 w4 (Returned (Some (Number W32 (pos 0)))) s4 w4 (zero_runs s4 w4)))
   main_ends None h =
       let body : run record_body start w0 ≡ Stopped (overflows w1) =
-          append_stopped n calls (printing_begins ++ lowered source.value 0) (printing_ends (count source.value)) start w0 (overflows w1) (append_going n calls printing_begins (lowered source.value 0) start (at []) w0 w1 begins ∙ h) in
+      append_stopped n calls (printing_begins ++ lowered source.value 0) (printing_ends (count source.value)) start w0 (overflows w1) (append_going n calls printing_begins (lowered source.value 0) start (at []) w0 w1 begins ∙ h) in
       ap outcome_of (bind_stopped (run (main_body source)) (λ flow. give (status_of flow)) start w0 (overflows w1)
       (order_next (doing (Call (init_name source.name) [])) (map doing rest_of) start w0 start w0 init_runs
       ∙ order_stopped (doing (Block record_body)) (map doing (ReturnValue (Constant 0) ∷ [])) start w0 (overflows w1) (block_is start w0 ∙ stop_block n calls record_body (overflows w1) start w0 body)))

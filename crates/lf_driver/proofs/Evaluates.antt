@@ -168,14 +168,19 @@ module _ (files : List CFile) (h : HasPrelude files 0) (n d : ℕ) (long : 15 �
     where
       z : ℤ
       z = exact operator a b
+
       names : (f : ℕ → ℕ → Stretch State (Option Flow)) → f (k + 1) (k + 2) ≡ f (suc (length vs)) (suc (suc (length vs)))
       names f = let p : k + 1 ≡ suc (length vs) = omega arith in let q : k + 2 ≡ suc (suc (length vs)) = omega arith in ap (λ x. f x (k + 2)) p ∙ ap (λ x. f (suc (length vs)) x) q
+
       by_fits : (p q : Bool) → fits W64 z ≡ p → fits W32 z ≡ q → Ends (cond q (Some z) None) 2 (operation operator i j k) vs w
-      by_fits true true ep eq =
-          (z ∷ [], refl, eq,
-            names (λ l m. run (computed operator i j l ∷ fitted l m ∷ []) (at vs) w)
+      by_fits true true ep eq = (
+        z ∷ [],
+        refl,
+        eq,
+        names (λ l m. run (computed operator i j l ∷ fitted l m ∷ []) (at vs) w)
             ∙ order_next (statement n calls (computed operator i j (suc (length vs)))) (map (statement n calls) (fitted (suc (length vs)) (suc (suc (length vs))) ∷ [])) (at vs) w (at (z ∷ vs)) w (computes operator a b vs i j few hi hj (kind4_fits a fa) (kind4_fits b fb) w ep)
-            ∙ order_next (statement n calls (fitted (suc (length vs)) (suc (suc (length vs))))) [] (at (z ∷ vs)) w (at (z ∷ z ∷ vs)) w (fits_kind4 z vs few ep w eq))
+            ∙ order_next (statement n calls (fitted (suc (length vs)) (suc (suc (length vs))))) [] (at (z ∷ vs)) w (at (z ∷ z ∷ vs)) w (fits_kind4 z vs few ep w eq),
+      )
       by_fits true false ep eq =
           names (λ l m. run (computed operator i j l ∷ fitted l m ∷ []) (at vs) w)
           ∙ order_next (statement n calls (computed operator i j (suc (length vs)))) (map (statement n calls) (fitted (suc (length vs)) (suc (suc (length vs))) ∷ [])) (at vs) w (at (z ∷ vs)) w (computes operator a b vs i j few hi hj (kind4_fits a fa) (kind4_fits b fb) w ep)
@@ -197,12 +202,15 @@ module _ (files : List CFile) (h : HasPrelude files 0) (n d : ℕ) (long : 15 �
 
     joined_ends : (a b : ℤ) (xs ys : List ℤ) → suc (length xs) ≡ cl → suc (length ys) ≡ cr → fits W32 a ≡ true → fits W32 b ≡ true → run l (at vs) w ≡ Going None (at ((a ∷ xs) ++ vs)) w → run r (at ((a ∷ xs) ++ vs)) w ≡ Going None (at ((b ∷ ys) ++ ((a ∷ xs) ++ vs))) w → (o : Option ℤ) → Ends o 2 (operation operator (behind + cl) (behind + cl + cr) (behind + cl + cr)) ((b ∷ ys) ++ ((a ∷ xs) ++ vs)) w → Ends o (cl + cr + 2) (l ++ rest) vs w
     joined_ends a b xs ys lx ly fa fb hl hr (Some v) h =
-        let us = (b ∷ ys) ++ (a ∷ xs) in
-        (h.0 ++ us, omega (arith, h.1, length-append h.0 us, length-append (b ∷ ys) (a ∷ xs)), h.2,
+        let us = (b ∷ ys) ++ (a ∷ xs) in (
+          h.0 ++ us,
+          omega (arith, h.1, length-append h.0 us, length-append (b ∷ ys) (a ∷ xs)),
+          h.2,
           append_going n calls l rest (at vs) (at ((a ∷ xs) ++ vs)) w w hl
-          ∙ append_going n calls r (operation operator (behind + cl) (behind + cl + cr) (behind + cl + cr)) (at ((a ∷ xs) ++ vs)) (at ((b ∷ ys) ++ ((a ∷ xs) ++ vs))) w w hr
-          ∙ h.3
-          ∙ ap (λ t. Going None (at t) w) (ap (λ t. (v ∷ h.0) ++ t) (sym (append_assoc (b ∷ ys) (a ∷ xs) vs)) ∙ sym (append_assoc (v ∷ h.0) us vs)))
+              ∙ append_going n calls r (operation operator (behind + cl) (behind + cl + cr) (behind + cl + cr)) (at ((a ∷ xs) ++ vs)) (at ((b ∷ ys) ++ ((a ∷ xs) ++ vs))) w w hr
+              ∙ h.3
+              ∙ ap (λ t. Going None (at t) w) (ap (λ t. (v ∷ h.0) ++ t) (sym (append_assoc (b ∷ ys) (a ∷ xs) vs)) ∙ sym (append_assoc (v ∷ h.0) us vs)),
+        )
     joined_ends a b xs ys lx ly fa fb hl hr None h =
         append_going n calls l rest (at vs) (at ((a ∷ xs) ++ vs)) w w hl
         ∙ append_going n calls r (operation operator (behind + cl) (behind + cl + cr) (behind + cl + cr)) (at ((a ∷ xs) ++ vs)) (at ((b ∷ ys) ++ ((a ∷ xs) ++ vs))) w w hr

@@ -1,5 +1,5 @@
 -- The headline, from the law on the printed C.
-use Rattle.std.proofs.Common.{◌≡◌, ℕ, List, [], ◌∷◌, Option, Some, None, Ok, ap, ◌∙◌}
+use Rattle.std.proofs.Common.{◌≡◌, ℕ, List, [], ◌∷◌, Option, Some, Ok, ap, ◌∙◌}
 use Rattle.std.specs.FinMap.{get}
 use Rattle.lf_base.specs.Files.{Files}
 use Rattle.ff_lexer.specs.Statements.{statements_of}
@@ -11,11 +11,13 @@ use Rattle.lf_driver.specs.declared.command.Verb.TheVariants.{Compile}
 use Rattle.lf_driver.proofs.Agrees.{agrees}
 use Rattle.lf_driver.proofs.SourceBounds.{source_bounded}
 
-pub keeps_meaning : (words : List (List ℕ)) (told : Option Files) → KeepsMeaning words told
-keeps_meaning words None = tt
-keeps_meaning words (Some files) file text source is there holds =
+told_meaning : (words : List (List ℕ)) (files : Files) (file text : List ℕ) (source : Source) → words_of words ≡ Some (Compile, 0, file ∷ []) → get files file ≡ Some text → source_in text ≡ Ok source → MeansTheSame words files file text source
+told_meaning words files file text source is there holds =
     let b = source_bounded text source holds in
     record {
       bytes = ap (λ o. of_command o files) is ∙ ap (λ o. of_text file o) there ∙ ap (λ j. of_source file j) holds;
       agree = agrees (place_in file (statements_of text)) source b.0 b.1 b.2;
     }
+
+pub keeps_meaning : (words : List (List ℕ)) (told : Option Files) → KeepsMeaning words told
+keeps_meaning words told = record { means = λ files file text source tells is there holds. told_meaning words files file text source is there holds; }

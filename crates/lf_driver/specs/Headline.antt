@@ -1,6 +1,6 @@
 -- What the C that is written means: for every input it ends as the source does, with its output, its status and
 -- its named trap, within stated bounds both ways, and it is never undefined.
-use Rattle.std.specs.Prelude.{◌≡◌, ℕ, List, [], ◌∷◌, Option, Some, None, Ok, Err}
+use Rattle.std.specs.Prelude.{◌≡◌, ℕ, List, [], ◌∷◌, Option, Some, Ok}
 use Rattle.std.specs.FinMap.{get}
 use Rattle.lf_base.specs.Files.{Files}
 use Rattle.lf_base.specs.Near.{Agree}
@@ -28,6 +28,5 @@ pub record MeansTheSame (words : List (List ℕ)) (files : Files) (file text : L
   pub agree : Agree (FortranMeaning (place_in file (statements_of text)) source) (CMeaning (lowered_file source ∷ []))
 
 -- It is so of every source that the words name and the store has, where the store tells its files.
-abbrev pub KeepsMeaning : List (List ℕ) → Option Files → Type 0
-KeepsMeaning words None = Unit {0}
-KeepsMeaning words (Some files) = (file text : List ℕ) (source : Source) → words_of words ≡ Some (Compile, 0, file ∷ []) → get files file ≡ Some text → source_in text ≡ Ok source → MeansTheSame words files file text source
+pub record KeepsMeaning (words : List (List ℕ)) (told : Option Files) : Type 0 where
+  pub means : (files : Files) (file text : List ℕ) (source : Source) → told ≡ Some files → words_of words ≡ Some (Compile, 0, file ∷ []) → get files file ≡ Some text → source_in text ≡ Ok source → MeansTheSame words files file text source

@@ -203,6 +203,7 @@ impl Store for FileStore {
                 self.pending = Some(pending);
                 Ok(())
             }
+            Err(error) if error.kind() == ErrorKind::OutOfMemory => Err(PutFault::Memory),
             Err(_) => {
                 self.faults = self.faults.saturating_add(1);
                 Err(PutFault::Failed)

@@ -41,9 +41,12 @@ abbrev gap_body : List CStmt
 gap_body = If gap_test (blank ∷ []) ∷ note ∷ []
 
 abbrev gap_frame : ℕ → ℕ → ℤ → Frame
-gap_frame up id k = record { next = 2; names =
-    record { name = codes "k"; id = 1; slot = Cells Int64 false (Some k ∷ []) }
-    ∷ record { name = codes "s"; id = 0; slot = Leads (Some (Local (suc up) id, 0)) } ∷ [] }
+gap_frame up id k = record {
+  next = 2;
+  names =
+      record { name = codes "k"; id = 1; slot = Cells Int64 false (Some k ∷ []) }
+      ∷ record { name = codes "s"; id = 0; slot = Leads (Some (Local (suc up) id, 0)) } ∷ [];
+}
 
 -- the object is the same, seen from the function that is called
 seen : (up id : ℕ) (caller : Frame) (callers : List Frame) (here : Frame) (input : List ℕ) → object_at (Local (suc up) id) (record { here = here; callers = caller ∷ callers; input = input }) ≡ object_at (Local up id) (record { here = caller; callers = callers; input = input })

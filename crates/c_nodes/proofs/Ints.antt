@@ -46,11 +46,14 @@ cell = Index (Variable (codes "b")) N
 -- a is what is left of the number, n the count of digits, d the last one, and b their cells
 abbrev int_state : ℤ → ℕ → ℤ → List (Option ℤ) → List Frame → List ℕ → State
 int_state z k d cells callers input = record {
-  here = record { next = 4; names =
-    record { name = codes "b"; id = 3; slot = Cells Byte true cells }
-    ∷ record { name = codes "d"; id = 2; slot = Cells Int64 false (Some d ∷ []) }
-    ∷ record { name = codes "n"; id = 1; slot = Cells Int64 false (Some (pos k) ∷ []) }
-    ∷ record { name = codes "a"; id = 0; slot = Cells Int64 false (Some z ∷ []) } ∷ [] };
+  here = record {
+    next = 4;
+    names =
+        record { name = codes "b"; id = 3; slot = Cells Byte true cells }
+        ∷ record { name = codes "d"; id = 2; slot = Cells Int64 false (Some d ∷ []) }
+        ∷ record { name = codes "n"; id = 1; slot = Cells Int64 false (Some (pos k) ∷ []) }
+        ∷ record { name = codes "a"; id = 0; slot = Cells Int64 false (Some z ∷ []) } ∷ [];
+  };
   callers = callers;
   input = input;
 }
@@ -102,7 +105,6 @@ module _ (n : ℕ) (calls : Calls) (neg : Bool) (callers : List Frame) (input : 
 
   abbrev at : ℕ → ℕ → ℤ → List (Option ℤ) → State
   at m k d cells = int_state (signed neg m) k d cells callers input
-
 
   -- the last digit
   takes : (m k : ℕ) (d : ℤ) (cells : List (Option ℤ)) → fits W64 (signed neg m) ≡ true → doing take_digit (at m k d cells) w ≡ Going None (at m k (signed neg (m % 10)) cells) w
@@ -173,12 +175,13 @@ module _ (n : ℕ) (calls : Calls) (neg : Bool) (callers : List Frame) (input : 
   one_digit m h k d done tail zero e o le few f = absurd (omega arith)
   one_digit m h k d done tail (suc t) e o le few f =
       let r : m % 10 ≡ m = omega arith in
-      let q : m / 10 ≡ 0 = omega arith in
-      (pos (m % 10),
+      let q : m / 10 ≡ 0 = omega arith in (
+        pos (m % 10),
         iterate_turn test body (at m k d (filled done (None ∷ tail))) w t (at m k d (filled done (None ∷ tail))) (at (m / 10) (k + 1) (pos (m % 10)) (filled (done ++ (48 + m % 10) ∷ []) tail)) w w (goes_on m k d (filled done (None ∷ tail)) o) (stores m k d done tail f e (omega arith))
-        ∙ ap (λ x. iterate t test body (at x (k + 1) (pos (m % 10)) (filled (done ++ (48 + m % 10) ∷ []) tail)) w) q
-        ∙ iterate_done test body (at 0 (k + 1) (pos (m % 10)) (filled (done ++ (48 + m % 10) ∷ []) tail)) w t (at 0 (k + 1) (pos (m % 10)) (filled (done ++ (48 + m % 10) ∷ []) tail)) w (is_done (k + 1) (pos (m % 10)) (filled (done ++ (48 + m % 10) ∷ []) tail) (omega arith))
-        ∙ ap (λ x. Going None (at 0 (k + 1) (pos (m % 10)) (filled (done ++ (48 + x) ∷ []) tail)) w) r)
+            ∙ ap (λ x. iterate t test body (at x (k + 1) (pos (m % 10)) (filled (done ++ (48 + m % 10) ∷ []) tail)) w) q
+            ∙ iterate_done test body (at 0 (k + 1) (pos (m % 10)) (filled (done ++ (48 + m % 10) ∷ []) tail)) w t (at 0 (k + 1) (pos (m % 10)) (filled (done ++ (48 + m % 10) ∷ []) tail)) w (is_done (k + 1) (pos (m % 10)) (filled (done ++ (48 + m % 10) ∷ []) tail) (omega arith))
+            ∙ ap (λ x. Going None (at 0 (k + 1) (pos (m % 10)) (filled (done ++ (48 + x) ∷ []) tail)) w) r,
+      )
 
   more_digits : (m : ℕ) (ds : List ℕ) → 10 ≤ m → Stores (m / 10) ds → Stores m (ds ++ (48 + m % 10) ∷ [])
   more_digits m ds h rest k d done tail zero e o le few f = absurd (omega (arith, length-snoc ds (48 + m % 10)))
@@ -186,13 +189,14 @@ module _ (n : ℕ) (calls : Calls) (neg : Bool) (callers : List Frame) (input : 
       let c : ℕ = 48 + m % 10 in
       let now = done ++ c ∷ [] in
       let long = length-snoc ds c in
-      let after = rest (k + 1) (pos (m % 10)) now tail t (ap (λ j. j + 1) e ∙ sym (length-snoc done c)) (inr (omega arith)) (omega (arith, long)) (omega (arith, long)) (fits_smaller neg m (m / 10) (omega arith) f) in
-      (after.0,
+      let after = rest (k + 1) (pos (m % 10)) now tail t (ap (λ j. j + 1) e ∙ sym (length-snoc done c)) (inr (omega arith)) (omega (arith, long)) (omega (arith, long)) (fits_smaller neg m (m / 10) (omega arith) f) in (
+        after.0,
         ap (λ l. iterate (suc t) test body (at m k d (filled done l)) w) (unset_more ds c tail)
-        ∙ iterate_turn test body (at m k d (filled done (None ∷ unset ds tail))) w t (at m k d (filled done (None ∷ unset ds tail))) (at (m / 10) (k + 1) (pos (m % 10)) (filled now (unset ds tail))) w w (goes_on m k d (filled done (None ∷ unset ds tail)) o) (stores m k d done (unset ds tail) f e (omega (arith, long)))
-        ∙ after.1
-        ∙ ap (λ j. Going None (at 0 j after.0 (filled (now ++ back ds) tail)) w) (omega (arith, long))
-        ∙ ap (λ l. Going None (at 0 (k + length (ds ++ c ∷ [])) after.0 (filled l tail)) w) (append_assoc done (c ∷ []) (back ds) ∙ ap (λ l. done ++ l) (sym (back-more ds c))))
+            ∙ iterate_turn test body (at m k d (filled done (None ∷ unset ds tail))) w t (at m k d (filled done (None ∷ unset ds tail))) (at (m / 10) (k + 1) (pos (m % 10)) (filled now (unset ds tail))) w w (goes_on m k d (filled done (None ∷ unset ds tail)) o) (stores m k d done (unset ds tail) f e (omega (arith, long)))
+            ∙ after.1
+            ∙ ap (λ j. Going None (at 0 j after.0 (filled (now ++ back ds) tail)) w) (omega (arith, long))
+            ∙ ap (λ l. Going None (at 0 (k + length (ds ++ c ∷ [])) after.0 (filled l tail)) w) (append_assoc done (c ∷ []) (back ds) ∙ ap (λ l. done ++ l) (sym (back-more ds c))),
+      )
 
   pub stores_all : (m : ℕ) → m < 2 ^ 64 → Stores m (decimal m)
   stores_all m h = decimal_by_steps Stores one_digit more_digits m h
@@ -258,16 +262,17 @@ module _ (files : List CFile) (n d file : ℕ) (z e : ℤ) (callers : List Frame
       let some : int_lt (pos 0) (pos (suc k)) ≡ true = grind (arith, ints) in
       let is : nth k cells ≡ Some (Some (pos x)) = ap (λ l. nth k l) (filled_more (back ls) x tail) ∙ ap (λ j. nth j (filled (back ls) (Some (pos x) ∷ tail))) (sym (length-back ls)) ∙ nth_filled (back ls) (Some (pos x)) tail in
       let start = here (suc k) cells in
-      let more = written_all t ls (Some (pos x) ∷ tail) v (omega arith) (omega arith) all.1 in
-      (more.0,
+      let more = written_all t ls (Some (pos x) ∷ tail) v (omega arith) (omega arith) all.1 in (
+        more.0,
         iterate_turn left_test writes start w t start (here k cells) w v
-        (run_tested some_left start w (truth true) true (simp (exprs, some) refl) refl)
-        (run_block n steps writing None start (here k cells) w v
-        (order_next (statement n steps back_one) (map (statement n steps) (put_digit ∷ [])) start w (here k cells) w (ap (λ j. statement n steps back_one (here j cells) w) (omega arith) ∙ backs k cells w (omega arith))
-        ∙ order_next (statement n steps put_digit) [] (here k cells) w (here k cells) v (puts k x cells w all.0 is)))
-        ∙ ap (λ l. iterate t left_test writes (here k l) v) (filled_more (back ls) x tail)
-        ∙ more.1
-        ∙ ap (λ o. Going None (here 0 more.0) (record { out = o; err = w.err })) (append_assoc w.out (x ∷ []) ls))
+            (run_tested some_left start w (truth true) true (simp (exprs, some) refl) refl)
+            (run_block n steps writing None start (here k cells) w v
+            (order_next (statement n steps back_one) (map (statement n steps) (put_digit ∷ [])) start w (here k cells) w (ap (λ j. statement n steps back_one (here j cells) w) (omega arith) ∙ backs k cells w (omega arith))
+            ∙ order_next (statement n steps put_digit) [] (here k cells) w (here k cells) v (puts k x cells w all.0 is)))
+            ∙ ap (λ l. iterate t left_test writes (here k l) v) (filled_more (back ls) x tail)
+            ∙ more.1
+            ∙ ap (λ o. Going None (here 0 more.0) (record { out = o; err = w.err })) (append_assoc w.out (x ∷ []) ls),
+      )
 
 -- the whole function
 abbrev int_body : List CStmt

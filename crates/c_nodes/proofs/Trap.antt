@@ -53,11 +53,14 @@ nth_end (x ∷ bytes) = nth_end bytes
 -- while the trap's text is written: `p` leads to the one text and `s` to the other
 abbrev pub trap_state : ℤ → List ℕ → List ℕ → ℤ → List Frame → List ℕ → State
 trap_state k text before i callers input = record {
-  here = record { next = 4; names =
-    record { name = codes "p"; id = 3; slot = Leads (Some (Text before, 0)) }
-    ∷ record { name = codes "i"; id = 2; slot = Cells Int64 false (Some i ∷ []) }
-    ∷ record { name = codes "s"; id = 1; slot = Leads (Some (Text text, 0)) }
-    ∷ record { name = codes "k"; id = 0; slot = Cells Int64 false (Some k ∷ []) } ∷ [] };
+  here = record {
+    next = 4;
+    names =
+        record { name = codes "p"; id = 3; slot = Leads (Some (Text before, 0)) }
+        ∷ record { name = codes "i"; id = 2; slot = Cells Int64 false (Some i ∷ []) }
+        ∷ record { name = codes "s"; id = 1; slot = Leads (Some (Text text, 0)) }
+        ∷ record { name = codes "k"; id = 0; slot = Cells Int64 false (Some k ∷ []) } ∷ [];
+  };
   callers = callers;
   input = input;
 }
@@ -157,9 +160,12 @@ trap_body = DeclareValue Int64 (codes "i") (Constant 0) ∷ DeclarePointer Byte 
 
 -- the frame of a call
 abbrev trap_frame : ℤ → List ℕ → Frame
-trap_frame k text = record { next = 2; names =
-    record { name = codes "s"; id = 1; slot = Leads (Some (Text text, 0)) }
-    ∷ record { name = codes "k"; id = 0; slot = Cells Int64 false (Some k ∷ []) } ∷ [] }
+trap_frame k text = record {
+  next = 2;
+  names =
+      record { name = codes "s"; id = 1; slot = Leads (Some (Text text, 0)) }
+      ∷ record { name = codes "k"; id = 0; slot = Cells Int64 false (Some k ∷ []) } ∷ [];
+}
 
 module _ (files : List CFile) (n d file : ℕ) (k : ℕ) (text : List ℕ) (callers : List Frame) (input : List ℕ) (w : Written) (few : k < 100) (short : length text < 1000000) (plain : IsText text) (turns9 : 9 ≤ n) (turnst : length text ≤ n) where
   abbrev steps : Calls

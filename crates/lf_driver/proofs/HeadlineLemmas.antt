@@ -20,4 +20,4 @@ told_meaning words files file text source is there holds =
     }
 
 pub keeps_meaning : (words : List (List ℕ)) (told : Option Files) → KeepsMeaning words told
-keeps_meaning words told = record { means = λ files file text source tells is there holds. told_meaning words files file text source is there holds; }
+keeps_meaning words told = record { means = λ files file text source tells is there holds. told_meaning words files file text source is there holds }

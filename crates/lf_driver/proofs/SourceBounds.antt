@@ -1,12 +1,13 @@
--- What a text that holds a program says of its size: names and counts of tokens are short, and literals are of kind 4.
+-- What a text that holds a program says of its size: names and counts of tokens are short, names are letters, digits
+-- and underscores, and literals are of kind 4.
 use Rattle.std.proofs.Common.{◌≡◌, ℕ, zero, suc, ◌+◌, ◌*◌, ◌-◌, ◌^◌, ◌<◌, ◌≤◌, Bool, true, false, List, [], ◌∷◌, ◌++◌, length, Option, Some, None, Result, Ok, Err, codes, cond, refl, sym, ap, subst, ◌∙◌, arith}
-use Rattle.std.specs.Prelude.{nat_lt, nat_le}
-use Rattle.std.specs.List.{AllByRecursion}
+use Rattle.std.specs.Prelude.{nat_lt, nat_le, ◌&&◌, ◌||◌}
+use Rattle.std.specs.List.{AllByRecursion, list_all}
 use Rattle.std.proofs.lemmas.Bool.Decides.{nat_tests}
 use Rattle.lf_base.specs.declared.rule.Rule.TheVariants.{E108, E202}
 use Rattle.ff_lexer.specs.declared.token.Kind.{Kind}
 use Rattle.ff_lexer.specs.declared.token.Kind.TheVariants.{Word, Number, Text, Mark}
-use Rattle.ff_lexer.specs.Statements.{Spelled, Found, is_letter, is_digit, is_name_byte, is_mark, is_blank, front, name, token_at, put_first, then_behind, tokens_behind, fitting, tokens_of, ahead, on_line, from_lines, statements_of, lines_of, greatest_source}
+use Rattle.ff_lexer.specs.Statements.{Spelled, Found, is_letter, is_digit, is_underscore, is_name_byte, is_mark, is_blank, front, name, token_at, put_first, then_behind, tokens_behind, fitting, tokens_of, ahead, on_line, from_lines, statements_of, lines_of, greatest_source}
 use Rattle.lf_driver.specs.declared.program.Operator.{Operator}
 use Rattle.lf_driver.specs.declared.program.Operator.TheVariants.{Add, Subtract, Multiply}
 use Rattle.lf_driver.specs.Source.{Tree, Literal, Binary, Source, Operation, Chain, Judged, grouped, tree_of, value_behind, literal_of, operator_of, operations_of, chain, chain_of, word_of, name_of, printed_of, is_word, is_end, alone, ended_by, with_value, printing, with_name, program_of, refused}
@@ -26,20 +27,42 @@ front_short : (test : ℕ → Bool) (bs : List ℕ) → length (front test bs) �
 front_short test [] = omega arith
 front_short test (b ∷ bs) = front_by (test b) b bs (front test bs) (front_short test bs)
 
+front_passes_by : (test : ℕ → Bool) (t : Bool) (b : ℕ) (rest : List ℕ) → test b ≡ t → list_all test rest ≡ true → list_all test (cond t (b ∷ rest) []) ≡ true
+front_passes_by test true b rest e h = ap (λ p. p && list_all test rest) e ∙ h
+front_passes_by test false b rest e h = refl
+
+front_passes : (test : ℕ → Bool) (bs : List ℕ) → list_all test (front test bs) ≡ true
+front_passes test [] = refl
+front_passes test (b ∷ bs) = front_passes_by test (test b) b (front test bs) refl (front_passes test bs)
+
+-- a word has the bytes of a name
+abbrev pub Named : Spelled → Type 0
+Named (Word, bytes) = list_all is_name_byte bytes ≡ true
+Named (kind, bytes) = Unit {0}
+
 -- a token is no longer than what is left of its line
-name_by : (t : Bool) (bytes : List ℕ) (token : Spelled) (n : ℕ) → length bytes ≤ n → cond t None (Some (Word, bytes)) ≡ Some token → length token.1 ≤ n
-name_by true bytes token n h e = absurd (cc)
-name_by false bytes token n h e = let a : (Word, bytes) ≡ token = cc in subst (λ x. length x.1 ≤ n) a h
+abbrev Fine : ℕ → Spelled → Type 0
+Fine n token = (length token.1 ≤ n) × Named token
 
-token_by : (p q r : Bool) (b : ℕ) (bs : List ℕ) (token : Spelled) → cond p (name (b ∷ front is_name_byte bs)) (cond q (Some (Number, b ∷ front is_digit bs)) (cond r (Some (Mark, b ∷ [])) None)) ≡ Some token → length token.1 ≤ suc (length bs)
-token_by true q r b bs token e = name_by (nat_lt 63 (length (b ∷ front is_name_byte bs))) (b ∷ front is_name_byte bs) token (suc (length bs)) (longer (length (front is_name_byte bs)) (length bs) (front_short is_name_byte bs)) e
-token_by false true r b bs token e = let a : (Number, b ∷ front is_digit bs) ≡ token = cc in subst (λ x. length x.1 ≤ suc (length bs)) a (longer (length (front is_digit bs)) (length bs) (front_short is_digit bs))
-token_by false false true b bs token e = let a : (Mark, b ∷ []) ≡ token = cc in subst (λ x. length x.1 ≤ suc (length bs)) a (omega arith)
-token_by false false false b bs token e = absurd (cc)
+name_by : (t : Bool) (bytes : List ℕ) (token : Spelled) (n : ℕ) → length bytes ≤ n → list_all is_name_byte bytes ≡ true → cond t None (Some (Word, bytes)) ≡ Some token → Fine n token
+name_by true bytes token n h k e = absurd (cc)
+name_by false bytes token n h k e = let a : (Word, bytes) ≡ token = cc in subst (λ x. Fine n x) a (h, k)
 
--- tokens of at most so many bytes each
+word_passes : (b : ℕ) (bs : List ℕ) → is_letter b ≡ true → list_all is_name_byte (b ∷ front is_name_byte bs) ≡ true
+word_passes b bs h = ap (λ p. (p || is_digit b || is_underscore b) && list_all is_name_byte (front is_name_byte bs)) h ∙ front_passes is_name_byte bs
+
+token_by : (p q r : Bool) (b : ℕ) (bs : List ℕ) (token : Spelled) → is_letter b ≡ p → cond p (name (b ∷ front is_name_byte bs)) (cond q (Some (Number, b ∷ front is_digit bs)) (cond r (Some (Mark, b ∷ [])) None)) ≡ Some token → Fine (suc (length bs)) token
+token_by true q r b bs token l e = name_by (nat_lt 63 (length (b ∷ front is_name_byte bs))) (b ∷ front is_name_byte bs) token (suc (length bs)) (longer (length (front is_name_byte bs)) (length bs) (front_short is_name_byte bs)) (word_passes b bs l) e
+token_by false true r b bs token l e = let a : (Number, b ∷ front is_digit bs) ≡ token = cc in subst (λ x. Fine (suc (length bs)) x) a (longer (length (front is_digit bs)) (length bs) (front_short is_digit bs), tt)
+token_by false false true b bs token l e = let a : (Mark, b ∷ []) ≡ token = cc in subst (λ x. Fine (suc (length bs)) x) a (omega arith, tt)
+token_by false false false b bs token l e = absurd (cc)
+
+fine_more : (m n : ℕ) (token : Spelled) → m ≤ n → Fine m token → Fine n token
+fine_more m n token le h = (let a = h.0 in omega arith, h.1)
+
+-- tokens of at most so many bytes each, and words of the bytes of names
 abbrev pub Short : ℕ → List Spelled → Type 0
-Short most tokens = AllByRecursion (λ t. length t.1 ≤ most) tokens
+Short most tokens = AllByRecursion (λ t. Fine most t) tokens
 
 abbrev Fits : ℕ → List ℕ → List Spelled → Type 0
 Fits most line tokens = (length tokens ≤ length line) × Short most tokens
@@ -50,7 +73,7 @@ fits_more most b bs ts h = (let a = h.0 in omega arith, h.1)
 abbrev All : ℕ → List ℕ → Type 0
 All most bs = (passed : ℕ) (ts : List Spelled) → tokens_behind passed bs ≡ Some ts → Fits most bs ts
 
-put_fits : (most b : ℕ) (bs : List ℕ) (t : Spelled) (ts : List Spelled) → length t.1 ≤ most → All most bs → (passed : ℕ) (o : Option (List Spelled)) → tokens_behind passed bs ≡ o → put_first t o ≡ Some ts → Fits most (b ∷ bs) ts
+put_fits : (most b : ℕ) (bs : List ℕ) (t : Spelled) (ts : List Spelled) → Fine most t → All most bs → (passed : ℕ) (o : Option (List Spelled)) → tokens_behind passed bs ≡ o → put_first t o ≡ Some ts → Fits most (b ∷ bs) ts
 put_fits most b bs t ts short k passed None e f = absurd (cc)
 put_fits most b bs t ts short k passed (Some us) e f =
     let a : t ∷ us ≡ ts = cc in
@@ -59,7 +82,7 @@ put_fits most b bs t ts short k passed (Some us) e f =
 
 token_fits : (most b : ℕ) (bs : List ℕ) (ts : List Spelled) → suc (length bs) ≤ most → All most bs → (o : Option Spelled) → token_at b bs ≡ o → then_behind o (λ passed. tokens_behind passed bs) ≡ Some ts → Fits most (b ∷ bs) ts
 token_fits most b bs ts le k None e f = absurd (cc)
-token_fits most b bs ts le k (Some t) e f = put_fits most b bs t ts (let a : length t.1 ≤ suc (length bs) = token_by (is_letter b) (is_digit b) (is_mark b) b bs t e in omega arith) k (length t.1 - 1) (tokens_behind (length t.1 - 1) bs) refl f
+token_fits most b bs ts le k (Some t) e f = put_fits most b bs t ts (fine_more (suc (length bs)) most t le (token_by (is_letter b) (is_digit b) (is_mark b) b bs t refl e)) k (length t.1 - 1) (tokens_behind (length t.1 - 1) bs) refl f
 
 blank_fits : (most b : ℕ) (bs : List ℕ) (ts : List Spelled) → suc (length bs) ≤ most → All most bs → (t : Bool) → cond t (tokens_behind 0 bs) (then_behind (token_at b bs) (λ passed. tokens_behind passed bs)) ≡ Some ts → Fits most (b ∷ bs) ts
 blank_fits most b bs ts le k true e = fits_more most b bs ts (k 0 ts e)
@@ -192,14 +215,19 @@ grouped_sized ((Add, v) ∷ os) place more term h s k = sized_as _ _ _ (omega ar
 grouped_sized ((Subtract, v) ∷ os) place more term h s k = sized_as _ _ _ (omega arith) (grouped_sized os (Binary Subtract (place term)) (count term + more + 2) (Literal v) (behind_sum Subtract place more term h s) k.0 k.1)
 
 -- what the law on the printed C asks of a program
-abbrev pub Bounded : Source → Type 0
-Bounded s = IsSmall s.value × (count s.value < 2 ^ 70) × (length s.name < 2 ^ 64)
+-- a name of so many bytes at most
+abbrev IsShortName : ℕ → List ℕ → Type 0
+IsShortName n name = (length name ≤ n) × (list_all is_name_byte name ≡ true)
 
-bounded_chain : (name : List ℕ) (c : Chain) → length name ≤ 132 → SmallChain 132 c → Bounded (record { name = name; value = tree_of c })
+abbrev pub Bounded : Source → Type 0
+Bounded s = IsSmall s.value × (count s.value < 2 ^ 70) × (length s.name < 2 ^ 64) × (list_all is_name_byte s.name ≡ true)
+
+bounded_chain : (name : List ℕ) (c : Chain) → IsShortName 132 name → SmallChain 132 c → Bounded (record { name = name; value = tree_of c })
 bounded_chain name c n h =
     let t = grouped_sized c.1 (λ term. term) 0 (Literal c.0) (λ t s. (s, omega arith)) h.0 h.1.1 in
     let l = h.1.0 in
-    (t.0, omega (arith, t.1), omega arith)
+    let m = n.0 in
+    (t.0, omega (arith, t.1), omega arith, n.1)
 
 alone_bounded : (s : Source) (ss : List (ℕ × List Spelled)) (found : Source) → Bounded s → alone s ss ≡ Ok found → Bounded found
 alone_bounded s [] found h e = let a : s ≡ found = cc in subst Bounded a h
@@ -209,33 +237,33 @@ end_by : (t : Bool) (s : Source) (ss : List (ℕ × List Spelled)) (line : ℕ) 
 end_by true s ss line found h e = alone_bounded s ss found h e
 end_by false s ss line found h e = absurd (cc)
 
-ended_bounded : (line : ℕ) (name : List ℕ) (c : Chain) (ss : List (ℕ × List Spelled)) (found : Source) → length name ≤ 132 → SmallChain 132 c → ended_by line name c ss ≡ Ok found → Bounded found
+ended_bounded : (line : ℕ) (name : List ℕ) (c : Chain) (ss : List (ℕ × List Spelled)) (found : Source) → IsShortName 132 name → SmallChain 132 c → ended_by line name c ss ≡ Ok found → Bounded found
 ended_bounded line name c [] found n h e = absurd (cc)
 ended_bounded line name c (s ∷ ss) found n h e = end_by (is_end name s.1) (record { name = name; value = tree_of c }) ss s.0 found (bounded_chain name c n h) e
 
-value_bounded : (line : ℕ) (name : List ℕ) (o : Option Chain) (ss : List (ℕ × List Spelled)) (found : Source) → length name ≤ 132 → ((c : Chain) → o ≡ Some c → SmallChain 132 c) → with_value line name o ss ≡ Ok found → Bounded found
+value_bounded : (line : ℕ) (name : List ℕ) (o : Option Chain) (ss : List (ℕ × List Spelled)) (found : Source) → IsShortName 132 name → ((c : Chain) → o ≡ Some c → SmallChain 132 c) → with_value line name o ss ≡ Ok found → Bounded found
 value_bounded line name None ss found n h e = absurd (cc)
 value_bounded line name (Some c) ss found n h e = ended_bounded line name c ss found n (h c refl) e
 
-printing_bounded : (line : ℕ) (name : List ℕ) (ss : List (ℕ × List Spelled)) (found : Source) → length name ≤ 132 → AllLimited ss → printing line name ss ≡ Ok found → Bounded found
+printing_bounded : (line : ℕ) (name : List ℕ) (ss : List (ℕ × List Spelled)) (found : Source) → IsShortName 132 name → AllLimited ss → printing line name ss ≡ Ok found → Bounded found
 printing_bounded line name [] found n h e = absurd (cc)
 printing_bounded line name (s ∷ ss) found n h e = value_bounded s.0 name (printed_of s.1) ss found n (λ c k. printed_small s.1 c h.0 k) e
 
-name_bounded : (line : ℕ) (o : Option (List ℕ)) (ss : List (ℕ × List Spelled)) (found : Source) → ((name : List ℕ) → o ≡ Some name → length name ≤ 132) → AllLimited ss → with_name line o ss ≡ Ok found → Bounded found
+name_bounded : (line : ℕ) (o : Option (List ℕ)) (ss : List (ℕ × List Spelled)) (found : Source) → ((name : List ℕ) → o ≡ Some name → IsShortName 132 name) → AllLimited ss → with_name line o ss ≡ Ok found → Bounded found
 name_bounded line None ss found h k e = absurd (cc)
 name_bounded line (Some name) ss found h k e = printing_bounded line name ss found (h name refl) k e
 
-word_short : (k : Kind) (bytes name : List ℕ) (n : ℕ) → length bytes ≤ n → word_of (k, bytes) ≡ Some name → length name ≤ n
-word_short Word bytes name n h e = let a : bytes ≡ name = cc in subst (λ x. length x ≤ n) a h
+word_short : (k : Kind) (bytes name : List ℕ) (n : ℕ) → Fine n (k, bytes) → word_of (k, bytes) ≡ Some name → IsShortName n name
+word_short Word bytes name n h e = let a : bytes ≡ name = cc in subst (λ x. IsShortName n x) a h
 word_short Number bytes name n h e = absurd (cc)
 word_short Text bytes name n h e = absurd (cc)
 word_short Mark bytes name n h e = absurd (cc)
 
-name_by_word : (t : Bool) (token : Spelled) (name : List ℕ) (n : ℕ) → length token.1 ≤ n → cond t (word_of token) None ≡ Some name → length name ≤ n
+name_by_word : (t : Bool) (token : Spelled) (name : List ℕ) (n : ℕ) → Fine n token → cond t (word_of token) None ≡ Some name → IsShortName n name
 name_by_word true token name n h e = word_short token.0 token.1 name n h e
 name_by_word false token name n h e = absurd (cc)
 
-name_short : (ts : List Spelled) (name : List ℕ) → Limited ts → name_of ts ≡ Some name → length name ≤ 132
+name_short : (ts : List Spelled) (name : List ℕ) → Limited ts → name_of ts ≡ Some name → IsShortName 132 name
 name_short [] name h e = absurd (cc)
 name_short (a ∷ []) name h e = absurd (cc)
 name_short (a ∷ b ∷ []) name h e = name_by_word (is_word (codes "program") a) b name 132 h.1.1.0 e

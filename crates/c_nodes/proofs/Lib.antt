@@ -9,6 +9,8 @@ pub mod ExprInduction
 pub mod Gap
 pub mod GrammarShapes
 pub mod Ints
+pub mod LinkingPrelude
+pub mod LinkingShapes
 pub mod Multiply
 pub mod PreludeTexts
 pub mod Products

@@ -3,6 +3,7 @@ pub mod CState
 pub mod CValues
 pub mod Grammar
 pub mod HelperLaws
+pub mod Linking
 pub mod Machine
 pub mod Prelude
 pub mod PreludeText

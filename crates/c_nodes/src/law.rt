@@ -11,6 +11,8 @@ ghost use Rattle.c_nodes.specs.declared.tree.CItem.{CItem};
 ghost use Rattle.c_nodes.specs.CValues.{least32, greatest32, least64, greatest64};
 ghost use Rattle.c_nodes.specs.CMeaning.{CMeaning};
 ghost use Rattle.c_nodes.specs.Grammar.{is_item, is_external, file_with, IsGrammatical, Spells};
+ghost use Rattle.c_nodes.specs.Linking.{library, are_right, known_behind};
+ghost use Rattle.c_nodes.specs.Prelude.{prelude_items};
 ghost use Rattle.c_nodes.specs.PreludeText.{prelude_text};
 ghost use Rattle.c_nodes.specs.Text.{item_texts, file_text};
 ghost use Rattle.c_nodes.specs.HelperLaws.{Traps, TrapsOver, Fits, Combines, WritesGap, WritesInt, trapped, answer32, answer64, AtEnd, gap};
@@ -21,10 +23,11 @@ pub fn one_spelling()
 {}
 
 /// The prelude with external functions behind it is a file, and its text is that of the prelude with theirs
-/// behind it.
+/// behind it. The functions of the prelude are right in types, names and calls.
 pub fn prelude_goes_on()
     ensures grammatical { (rest : List CItem) → IsTrue (list_all is_item rest) → IsTrue (list_all is_external rest) → IsGrammatical (file_with rest) }
     ensures text { (rest : List CItem) → file_text (file_with rest) ≡ prelude_text ++ joined (item_texts rest) }
+    ensures right { (rest : List CItem) → are_right (prelude_items ++ rest) library ≡ are_right rest (known_behind prelude_items library) }
 {}
 
 /// Larger bounds keep the end of a C program with its output and its status, and never shorten what it

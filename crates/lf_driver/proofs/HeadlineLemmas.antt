@@ -12,6 +12,7 @@ use Rattle.lf_driver.specs.Words.{words_of}
 use Rattle.lf_driver.specs.declared.command.Verb.TheVariants.{Compile}
 use Rattle.lf_driver.proofs.Agrees.{agrees}
 use Rattle.lf_driver.proofs.Grammatical.{grammatical}
+use Rattle.lf_driver.proofs.Linked.{linked}
 use Rattle.lf_driver.proofs.SourceBounds.{source_bounded}
 
 told_meaning : (words : List (List ℕ)) (files : Files) (file text : List ℕ) (source : Source) → words_of words ≡ Some (Compile, 0, file ∷ []) → get files file ≡ Some text → source_in text ≡ Ok source → MeansTheSame words files file text source
@@ -21,6 +22,7 @@ told_meaning words files file text source is there holds =
       bytes = file_text (lowered_file source);
       written = ap (λ o. of_command o files) is ∙ ap (λ o. of_text file o) there ∙ ap (λ j. of_source file j) holds;
       spells = record { grammatical = grammatical source b.0 b.1 b.2 b.3; text = refl };
+      linked = linked source b.1 b.2;
       agree = agrees (place_in file (statements_of text)) source b.0 b.1 b.2;
     }
 

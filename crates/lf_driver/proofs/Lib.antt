@@ -2,6 +2,7 @@ pub mod Agrees
 pub mod Evaluates
 pub mod Grammatical
 pub mod HeadlineLemmas
+pub mod Linked
 pub mod Lowers
 pub mod Names
 pub mod ProgramNames

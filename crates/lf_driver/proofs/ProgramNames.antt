@@ -24,10 +24,10 @@ pub record Digited (ds : List ℕ) : Type 0 where
 pub decimal_begins : (n : ℕ) → n < 2 ^ 64 → Digited (decimal n)
 decimal_begins n h = decimal_by_steps (λ m ds. Digited ds) (λ m small. record { first = 48 + m; rest = []; is = refl; small = omega arith }) (λ m ds large d. record { first = d.first; rest = d.rest ++ (48 + m % 10) ∷ []; is = ap (λ l. l ++ (48 + m % 10) ∷ []) d.is; small = d.small }) n h
 
-no_digit : (l c : ℕ) → c ≤ 57 → 57 < l → nat_eq l c ≡ false
+pub no_digit : (l c : ℕ) → c ≤ 57 → 57 < l → nat_eq l c ≡ false
 no_digit l c h k = grind (arith, nat_tests)
 
-abbrev init_with : List ℕ → List ℕ → List ℕ
+abbrev pub init_with : List ℕ → List ℕ → List ℕ
 init_with digits name = (((codes "lf_" ++ digits) ++ codes "_") ++ name) ++ codes "_init"
 
 skips : (c : ℕ) (ds name : List ℕ) (rest : List CItem) → c ≤ 57 → function_in (init_with (c ∷ ds) name) true 0 (prelude_items ++ rest) ≡ function_in (init_with (c ∷ ds) name) true 0 rest

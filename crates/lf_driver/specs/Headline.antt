@@ -1,5 +1,5 @@
--- What the C that is written means: it is in the grammar, and for every input it ends as the source does, with its
--- output, its status and its named trap, within stated bounds both ways, and it is never undefined.
+-- What the C that is written means: it is in the grammar and linked, and for every input it ends as the source does,
+-- with its output, its status and its named trap, within stated bounds both ways, and it is never undefined.
 use Rattle.std.specs.Prelude.{◌≡◌, ℕ, List, [], ◌∷◌, Option, Some, Ok}
 use Rattle.std.specs.FinMap.{get}
 use Rattle.lf_base.specs.Files.{Files}
@@ -8,6 +8,7 @@ use Rattle.lf_base.specs.Outcome.{Place}
 use Rattle.ff_lexer.specs.Statements.{Spelled, Found, statements_of}
 use Rattle.c_nodes.specs.CMeaning.{CMeaning}
 use Rattle.c_nodes.specs.Grammar.{Spells}
+use Rattle.c_nodes.specs.Linking.{IsProgram}
 use Rattle.lf_driver.specs.Fortran.{FortranMeaning}
 use Rattle.lf_driver.specs.Lowered.{lowered_file}
 use Rattle.lf_driver.specs.Source.{Source}
@@ -21,11 +22,13 @@ abbrev pub place_in : List ℕ → Found Spelled → Place
 place_in file (Ok (program ∷ print ∷ statements)) = record { source = file; line = print.0 }
 place_in file found = record { source = file; line = 0 }
 
--- What is written for a source that a command names: the bytes spell one C file, and that file and the source agree.
+-- What is written for a source that a command names: the bytes spell one C file, which is one program by itself, and
+-- that program and the source agree.
 pub record MeansTheSame (words : List (List ℕ)) (files : Files) (file text : List ℕ) (source : Source) : Type 0 where
   pub bytes : List ℕ
   pub written : verdict words files ≡ judged.Done (c_name file) bytes
   pub spells : Spells bytes (lowered_file source)
+  pub linked : IsProgram (lowered_file source ∷ [])
   pub agree : Agree (FortranMeaning (place_in file (statements_of text)) source) (CMeaning (lowered_file source ∷ []))
 
 -- It is so of every source that the words name and the store has, where the store tells its files.

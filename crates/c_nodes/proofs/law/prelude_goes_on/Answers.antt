@@ -1,4 +1,5 @@
 use Rattle.c_nodes.proofs.PreludeTexts.{grammatical_with, file_text-file_with}
+use Rattle.c_nodes.proofs.LinkingPrelude.{prelude_right}
 use Rattle.c_nodes.proofs.law.prelude_goes_on.Goals as goal
 
 pub returns-clause-grammatical : goal.returns-clause-grammatical
@@ -6,3 +7,6 @@ returns-clause-grammatical c rest = grammatical_with rest
 
 pub returns-clause-text : goal.returns-clause-text
 returns-clause-text c rest = file_text-file_with rest
+
+pub returns-clause-right : goal.returns-clause-right
+returns-clause-right c rest = prelude_right rest

@@ -1,10 +1,10 @@
 -- The prelude's arithmetic of 64 bits: exact, or the trap of an overflow.
-use Rattle.std.proofs.Common.{◌≡◌, ℕ, zero, suc, ◌+◌, ◌<◌, ◌≤◌, Bool, true, false, not, List, [], ◌∷◌, ◌++◌, length, map, Option, Some, None, codes, refl, sym, ap, subst, ◌∙◌, arith}
-use Rattle.std.specs.Prelude.{int_lt, int_le, ◌+ℤ◌, ◌-ℤ◌, ◌*ℤ◌, ◌≤ℤ◌, ◌<ℤ◌}
-use Rattle.std.proofs.Math.IntN.{ℤ, pos, negsuc}
+use Rattle.std.proofs.Common.{◌≡◌, ℕ, suc, ◌≤◌, Bool, true, false, not, List, [], ◌∷◌, ◌++◌, map, Some, codes, refl, ap, ◌∙◌, arith}
+use Rattle.std.specs.Prelude.{int_lt, ◌+ℤ◌, ◌-ℤ◌}
+use Rattle.std.proofs.Math.IntN.{ℤ, pos}
 use Rattle.std.proofs.lemmas.Int.{ints}
-use Rattle.lf_base.specs.Outcome.{Written, Outcome, Ended}
-use Rattle.lf_base.specs.Acts.{Stretch, Going, Stopped, Act}
+use Rattle.lf_base.specs.Outcome.{Written}
+use Rattle.lf_base.specs.Acts.{Going, Stopped}
 use Rattle.lf_base.proofs.Runs.{order_next, order_left, order_stopped}
 use Rattle.c_nodes.specs.declared.tree.CFile.{CFile}
 use Rattle.c_nodes.specs.declared.tree.CItem.{CItem}
@@ -13,13 +13,13 @@ use Rattle.c_nodes.specs.declared.tree.CStmt.{CStmt}
 use Rattle.c_nodes.specs.declared.tree.CResult.TheVariants as result
 use Rattle.c_nodes.specs.declared.tree.CParameter.TheVariants as parameter
 use Rattle.c_nodes.specs.declared.tree.CType.TheVariants.{Int64}
-use Rattle.c_nodes.specs.declared.tree.CBinary.TheVariants.{Add, Subtract, Multiply, Divide, Less, And, Or}
+use Rattle.c_nodes.specs.declared.tree.CBinary.TheVariants.{Add, Subtract, Less, And, Or}
 use Rattle.c_nodes.specs.declared.tree.CExpr.TheVariants.{Variable, Constant, Greatest, Least, Paren, Negate, Binary, Literal}
 use Rattle.c_nodes.specs.declared.tree.CStmt.TheVariants.{Call, ReturnValue, If}
-use Rattle.c_nodes.specs.CValues.{Width, W32, W64, Base, Text, CValue, Number, Pointer, fits, truth, least32, greatest32, least64, greatest64}
+use Rattle.c_nodes.specs.CValues.{Width, W32, W64, Text, CValue, Number, Pointer, fits, truth, least32, greatest32, least64, greatest64}
 use Rattle.c_nodes.specs.CState.{Cells, Frame, State, no_names}
-use Rattle.c_nodes.specs.CMeaning.{reading, Calls, Procedure, Flow, Returned, bound_all, call, on_procedure, function_of, function_in, calls_of, statement, statements}
-use Rattle.c_nodes.specs.HelperLaws.{HasPrelude, trapped, overflows, value_or_overflow, Fits, Combines}
+use Rattle.c_nodes.specs.CMeaning.{reading, Calls, Procedure, Returned, bound_all, call, on_procedure, function_of, function_in, calls_of, statement, statements}
+use Rattle.c_nodes.specs.HelperLaws.{HasPrelude, overflows, value_or_overflow, Fits, Combines}
 use Rattle.c_nodes.specs.Prelude.{prelude_items}
 use Rattle.c_nodes.proofs.CExprs.{exprs}
 use Rattle.c_nodes.proofs.CRuns.{stop_call, run_return, run_if_not, if_so, stop_block}

@@ -1,17 +1,17 @@
 -- Calls of the library, and of functions of the prelude in a file that begins with it.
-use Rattle.std.proofs.Common.{◌≡◌, ℕ, zero, suc, ◌+◌, ◌<◌, Bool, true, false, List, [], ◌∷◌, ◌++◌, Option, Some, None, codes, cond, refl, sym, ap, ◌∙◌, subst, arith}
+use Rattle.std.proofs.Common.{◌≡◌, ℕ, zero, suc, ◌+◌, ◌<◌, true, false, List, [], ◌∷◌, ◌++◌, Option, Some, None, codes, cond, refl, ap, ◌∙◌, arith}
 use Rattle.std.proofs.Math.IntN.{ℤ, pos}
 use Rattle.lf_base.specs.Outcome.{Written, Outcome, Ended}
-use Rattle.lf_base.specs.Acts.{Stretch, Going, Stopped, Act, bind, give, within}
+use Rattle.lf_base.specs.Acts.{Going, Stopped, bind, give}
 use Rattle.lf_base.proofs.Runs.{bind_going, bind_stopped, within_going, within_stopped}
 use Rattle.c_nodes.specs.declared.tree.CItem.{CItem}
 use Rattle.c_nodes.specs.declared.tree.CType.TheVariants.{Int64}
 use Rattle.c_nodes.specs.declared.tree.CParameter.{CParameter}
 use Rattle.c_nodes.specs.declared.tree.CParameter.TheVariants as parameter
 use Rattle.c_nodes.specs.declared.tree.CFile.{CFile}
-use Rattle.c_nodes.specs.CValues.{Width, W32, W64, CValue, Number, Errors, fits, checked}
+use Rattle.c_nodes.specs.CValues.{Width, W32, W64, CValue, Number, Errors, fits}
 use Rattle.c_nodes.specs.CState.{Cells, Frame, State, no_names}
-use Rattle.c_nodes.specs.CMeaning.{Calls, Procedure, Flow, calls_of, call, put_out, put_error, leave, on_int, on_procedure, function_of, first_of, external_in, function_in, items_of, byte_of, written_byte, statements, returned, left, entered, bound, bound_all, holding, become}
+use Rattle.c_nodes.specs.CMeaning.{Calls, Procedure, Flow, calls_of, call, put_out, put_error, leave, function_of, first_of, external_in, function_in, written_byte, statements, returned, left, bound, bound_all, holding}
 use Rattle.c_nodes.specs.HelperLaws.{HasPrelude}
 use Rattle.c_nodes.specs.Prelude.{prelude_items}
 use Rattle.c_nodes.proofs.CNumbers.{byte_small, fits32_nat}

@@ -1,23 +1,22 @@
 -- Larger bounds keep the end of a C program, and never shorten what it writes.
-use Rattle.std.proofs.Common.{◌≡◌, ℕ, zero, suc, ◌+◌, ◌≤◌, Bool, true, false, List, [], ◌∷◌, map, Option, Some, None, codes, cond, refl, sym, ap, subst, ◌∙◌, arith}
+use Rattle.std.proofs.Common.{◌≡◌, ℕ, zero, suc, ◌≤◌, Bool, true, false, List, [], ◌∷◌, map, Option, Some, None, codes, cond, sym, subst, arith}
 use Rattle.std.specs.Str.{bytes_eq}
 use Rattle.std.specs.List.{AllByRecursion}
 use Rattle.std.proofs.Math.IntN.{ℤ}
 use Rattle.lf_base.specs.declared.name.Name.{Name}
-use Rattle.lf_base.specs.Outcome.{Written, Undefined, written}
-use Rattle.lf_base.specs.Acts.{Stretch, Act, bind, give, look, change, print, complain, stop, cut, wrong, given, in_order, within, iterate}
-use Rattle.lf_base.specs.Order.{ExtendsIn, Grows, Below}
+use Rattle.lf_base.specs.Outcome.{Undefined, written}
+use Rattle.lf_base.specs.Acts.{Act, bind, give, look, change, print, complain, stop, cut, wrong, given, in_order, within}
+use Rattle.lf_base.specs.Order.{Grows}
 use Rattle.lf_base.specs.Near.{IsMonotone}
 use Rattle.lf_base.specs.Monotone.{NoShorter}
 use Rattle.lf_base.proofs.Stretches.{grows_bind, grows_give, grows_look, grows_change, grows_print, grows_complain, grows_stop, grows_cut, grows_wrong, grows_given, grows_order, grows_within, grows_iterate}
 use Rattle.lf_base.proofs.Monotone.{same_self, bind_no_shorter, iterate_no_shorter, order_no_shorter, within_no_shorter, outcomes_monotone}
-use Rattle.c_nodes.specs.declared.tree.CType.{CType}
 use Rattle.c_nodes.specs.declared.tree.CExpr.{CExpr}
 use Rattle.c_nodes.specs.declared.tree.CStmt.{CStmt}
 use Rattle.c_nodes.specs.declared.tree.CFile.{CFile}
 use Rattle.c_nodes.specs.CValues.{CValue, Number, Pointer, Errors, to_int}
 use Rattle.c_nodes.specs.CState.{Slot, Leads, State, no_names, declare, closed}
-use Rattle.c_nodes.specs.CMeaning.{Reading, reading, Designated, value_of, place_of, all_given, arguments_of, stored_in, store, become, Flow, Returned, Doing, Calls, then_next, fresh, newest, initialize, room, answer, answered, tested, holds, choose, block, statement_layer, statement, statements, Procedure, call, left, entered, bound_all, returned, on_int, put_out, put_error, get_byte, leave, library_or, on_procedure, calls_of, function_of, run_main, main_of, begin, CMeaning, status_of, byte_of, written_byte, next_byte, without_first}
+use Rattle.c_nodes.specs.CMeaning.{reading, Designated, value_of, place_of, all_given, arguments_of, stored_in, store, become, Flow, Returned, Doing, Calls, then_next, fresh, newest, initialize, room, answer, answered, tested, holds, choose, block, statement_layer, statement, statements, Procedure, call, left, entered, bound_all, returned, on_int, put_out, put_error, get_byte, leave, library_or, on_procedure, calls_of, function_of, run_main, main_of, begin, CMeaning, status_of, byte_of, written_byte, next_byte, without_first}
 use Rattle.c_nodes.proofs.StmtInduction.{by_cases, fold-Declare, fold-DeclareArray, fold-DeclareValue, fold-DeclarePointer, fold-DeclareCall, fold-Assign, fold-AssignCall, fold-Call, fold-Return, fold-ReturnValue, fold-ReturnCall, fold-Block, fold-While, fold-If, fold-IfElse}
 
 abbrev U : Type 0

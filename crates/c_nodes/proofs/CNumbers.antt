@@ -1,12 +1,10 @@
 -- Numbers of C that fit their types, and tests on them.
-use Rattle.std.proofs.Common.{◌≡◌, ◌≢◌, ℕ, zero, suc, ◌+◌, ◌-◌, ◌*◌, ◌/◌, ◌%◌, ◌<◌, ◌≤◌, Bool, true, false, not, ◌&&◌, List, [], ◌∷◌, ◌++◌, length, map, Option, Some, None, cond, refl, sym, ap, subst, ◌∙◌, arith}
-use Rattle.std.specs.Prelude.{int_lt, int_le, unsigned_abs, ◌+ℤ◌, ◌-ℤ◌, ◌*ℤ◌, ◌≤ℤ◌, ◌<ℤ◌}
-use Rattle.std.specs.Int.{int_rem_euclid}
+use Rattle.std.proofs.Common.{◌≡◌, ℕ, ◌<◌, Bool, true, false, Some, refl, arith}
+use Rattle.std.specs.Prelude.{◌≤ℤ◌}
 use Rattle.std.specs.Ordering.{int_eq}
-use Rattle.std.proofs.Math.IntN.{ℤ, pos, negsuc}
+use Rattle.std.proofs.Math.IntN.{ℤ, pos}
 use Rattle.std.proofs.lemmas.Int.{ints}
-use Rattle.std.proofs.lemmas.Bool.Decides.{nat_tests}
-use Rattle.c_nodes.specs.CValues.{Width, W32, W64, CValue, Number, fits, checked, truth, is_zero, held_as, greatest64, least64, greatest32, least32}
+use Rattle.c_nodes.specs.CValues.{W32, W64, fits, truth, greatest64, least64, greatest32, least32}
 use Rattle.c_nodes.specs.CMeaning.{holds, byte_of}
 
 pub holds_truth : (t : Bool) → holds (truth t) ≡ Some t

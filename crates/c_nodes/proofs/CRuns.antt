@@ -1,18 +1,17 @@
 -- Statements of C whose parts are known: what each does in a state.
-use Rattle.std.proofs.Common.{◌≡◌, ℕ, zero, suc, ◌+◌, Bool, true, false, not, List, [], ◌∷◌, map, Option, Some, None, refl, sym, ap, ◌∙◌}
-use Rattle.std.proofs.Math.IntN.{ℤ}
+use Rattle.std.proofs.Common.{◌≡◌, ℕ, Bool, true, false, List, map, Option, Some, None, ap, ◌∙◌}
 use Rattle.lf_base.specs.declared.name.Name.{Name}
 use Rattle.lf_base.specs.Outcome.{Written, Outcome, Undefined}
-use Rattle.lf_base.specs.Acts.{Stretch, Going, Stopped, Act, then_do, bind, give, look, change, given, in_order, within, iterate}
-use Rattle.lf_base.proofs.Runs.{bind_going, bind_stopped, order_next, order_left, order_stopped, within_going, within_stopped, iterate_done, iterate_turn}
+use Rattle.lf_base.specs.Acts.{Going, Stopped, Act, then_do, bind, give, change, given, in_order, iterate}
+use Rattle.lf_base.proofs.Runs.{bind_going, bind_stopped, within_going, within_stopped}
 use Rattle.c_nodes.specs.declared.tree.CType.{CType}
 use Rattle.c_nodes.specs.declared.tree.CExpr.{CExpr}
 use Rattle.c_nodes.specs.declared.tree.CStmt.{CStmt}
-use Rattle.c_nodes.specs.declared.tree.CStmt.TheVariants.{Declare, DeclareArray, DeclareValue, DeclarePointer, DeclareCall, Assign, AssignCall, Call, Return, ReturnValue, ReturnCall, Block, While, If, IfElse}
-use Rattle.c_nodes.specs.CValues.{CValue, Number, is_zero}
+use Rattle.c_nodes.specs.declared.tree.CStmt.TheVariants.{DeclareArray, DeclareValue, DeclarePointer, DeclareCall, Assign, Call, ReturnValue, While, If, IfElse}
+use Rattle.c_nodes.specs.CValues.{CValue}
 use Rattle.c_nodes.specs.CState.{Slot, Leads, State, declare, closed}
-use Rattle.c_nodes.specs.CMeaning.{Reading, reading, Designated, value_of, place_of, all_given, arguments_of, stored_in, store, Flow, Returned, Doing, Calls, then_next, fresh, newest, initialize, room, answer, answered, tested, holds, choose, block, statement_layer, statement, statements}
-use Rattle.c_nodes.proofs.StmtInduction.{fold-Declare, fold-DeclareArray, fold-DeclareValue, fold-DeclarePointer, fold-DeclareCall, fold-Assign, fold-Call, fold-ReturnValue, fold-ReturnCall, fold-Block, fold-While, fold-If, fold-IfElse}
+use Rattle.c_nodes.specs.CMeaning.{reading, Designated, value_of, place_of, all_given, arguments_of, stored_in, store, Flow, Returned, Doing, Calls, then_next, fresh, newest, initialize, room, answer, answered, tested, holds, choose, block, statement_layer, statement, statements}
+use Rattle.c_nodes.proofs.StmtInduction.{fold-DeclareArray, fold-DeclareValue, fold-DeclarePointer, fold-DeclareCall, fold-Assign, fold-Call, fold-ReturnValue, fold-While, fold-If, fold-IfElse}
 
 -- the value of an expression, and what it designates
 pub run_value : (e : CExpr) (s : State) (w : Written) (v : CValue) → (reading e).value s ≡ Some v → value_of e s w ≡ Going v s w

@@ -1,8 +1,8 @@
 -- The cells of digits that are being stored, and the digits of a number from the last one on.
-use Rattle.std.proofs.Common.{◌≡◌, ℕ, zero, suc, ◌+◌, ◌-◌, ◌*◌, ◌/◌, ◌%◌, ◌<◌, ◌≤◌, Bool, true, false, List, [], ◌∷◌, ◌++◌, length, map, reverse, Option, Some, None, refl, sym, ap, subst, ◌∙◌, arith, append_assoc, append-nil, zero-add}
-use Rattle.std.specs.Prelude.{nat_lt, nat_le, int_div, int_rem, int_lt, replicate, ◌-ℤ◌}
+use Rattle.std.proofs.Common.{◌≡◌, ℕ, zero, suc, ◌+◌, ◌-◌, ◌/◌, ◌%◌, ◌<◌, ◌≤◌, Bool, true, false, List, [], ◌∷◌, ◌++◌, length, map, Option, Some, None, refl, sym, ap, ◌∙◌, arith, zero-add}
+use Rattle.std.specs.Prelude.{nat_lt, nat_le, int_div, int_rem, replicate, ◌-ℤ◌}
 use Rattle.std.specs.Int.{int_rem_euclid}
-use Rattle.std.proofs.Math.IntN.{ℤ, pos, negsuc, neg_ℤ}
+use Rattle.std.proofs.Math.IntN.{ℤ, pos, neg_ℤ}
 use Rattle.std.specs.Ordering.{int_eq}
 use Rattle.std.proofs.lemmas.Int.{ints}
 use Rattle.std.proofs.lemmas.Bool.Decides.{nat_tests}

@@ -1,12 +1,11 @@
 -- The prelude's `lf_gap`: the blank before a further item.
-use Rattle.std.proofs.Common.{◌≡◌, ℕ, zero, suc, ◌+◌, Bool, true, false, not, List, [], ◌∷◌, ◌++◌, length, map, Option, Some, None, codes, refl, sym, ap, subst, ◌∙◌, arith, append-nil}
+use Rattle.std.proofs.Common.{◌≡◌, ℕ, zero, suc, Bool, true, false, not, List, [], ◌∷◌, ◌++◌, length, map, Option, Some, None, codes, refl, sym, ap, ◌∙◌, arith, append-nil}
 use Rattle.std.specs.Prelude.{if◌then◌else◌, ◌&&◌, nat_lt}
 use Rattle.std.proofs.lemmas.Bool.Decides.{nat_tests}
 use Rattle.std.specs.Ordering.{int_eq}
 use Rattle.std.proofs.Math.IntN.{ℤ, pos}
-use Rattle.std.proofs.lemmas.Int.{ints}
 use Rattle.lf_base.specs.Outcome.{Written}
-use Rattle.lf_base.specs.Acts.{Stretch, Going, Act}
+use Rattle.lf_base.specs.Acts.{Going}
 use Rattle.lf_base.proofs.Runs.{order_next}
 use Rattle.c_nodes.specs.declared.tree.CFile.{CFile}
 use Rattle.c_nodes.specs.declared.tree.CExpr.{CExpr}
@@ -17,10 +16,10 @@ use Rattle.c_nodes.specs.declared.tree.CType.TheVariants.{Int64}
 use Rattle.c_nodes.specs.declared.tree.CBinary.TheVariants.{Differ, And, Or}
 use Rattle.c_nodes.specs.declared.tree.CExpr.TheVariants.{Variable, Index, Constant, Paren, Binary}
 use Rattle.c_nodes.specs.declared.tree.CStmt.TheVariants.{Assign, Call, If}
-use Rattle.c_nodes.specs.CValues.{Width, W32, W64, Base, Local, CValue, Number, Pointer, fits, truth}
-use Rattle.c_nodes.specs.CState.{Slot, Cells, Leads, Frame, State, nth, frame_slot, slot_of, object_at, put_object, change_nth, in_frame, no_names}
-use Rattle.c_nodes.specs.CMeaning.{reading, Element, block, Calls, Doing, Procedure, written_byte, stored_in, left, call, on_procedure, calls_of, statement, statements}
-use Rattle.c_nodes.specs.HelperLaws.{HasPrelude, gap, WritesGap}
+use Rattle.c_nodes.specs.CValues.{W32, W64, Local, Number, Pointer, fits, truth}
+use Rattle.c_nodes.specs.CState.{Slot, Cells, Leads, Frame, State, nth, frame_slot, object_at, put_object}
+use Rattle.c_nodes.specs.CMeaning.{reading, Element, Calls, Procedure, written_byte, left, call, on_procedure, calls_of, statement, statements}
+use Rattle.c_nodes.specs.HelperLaws.{gap, WritesGap}
 use Rattle.c_nodes.proofs.CExprs.{exprs}
 use Rattle.c_nodes.proofs.CRuns.{run_assign, run_call, run_if_not, if_so, run_block}
 use Rattle.c_nodes.proofs.CCalls.{found, call_going, binds64, calls_putchar, prints}

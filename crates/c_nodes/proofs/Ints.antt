@@ -1,32 +1,30 @@
 -- The prelude's `lf_int`: a number in its fewest digits.
-use Rattle.std.proofs.Common.{◌≡◌, ℕ, zero, suc, ◌+◌, ◌-◌, ◌*◌, ◌/◌, ◌%◌, ◌^◌, ◌<◌, ◌≤◌, Bool, true, false, not, List, [], ◌∷◌, ◌++◌, length, map, reverse, Option, Some, None, codes, refl, sym, ap, subst, ◌∙◌, arith, append_assoc, append-nil, length-append, zero-add, ◌⊎◌, inl, inr}
-use Rattle.std.specs.Prelude.{int_lt, int_div, int_rem, ◌-ℤ◌, ◌+ℤ◌, replicate, nat_lt}
-use Rattle.std.specs.Int.{int_rem_euclid}
+use Rattle.std.proofs.Common.{◌≡◌, ℕ, zero, suc, ◌+◌, ◌-◌, ◌/◌, ◌%◌, ◌^◌, ◌<◌, ◌≤◌, Bool, true, false, List, [], ◌∷◌, ◌++◌, length, map, Option, Some, None, codes, refl, sym, ap, subst, ◌∙◌, arith, append_assoc, append-nil, zero-add, ◌⊎◌, inl, inr}
+use Rattle.std.specs.Prelude.{int_lt, int_div, replicate, nat_lt}
 use Rattle.std.specs.List.{AllByRecursion}
 use Rattle.std.specs.Ordering.{int_eq}
 use Rattle.std.specs.Fmt.{decimal, signed_decimal}
-use Rattle.std.proofs.Math.IntN.{ℤ, pos, negsuc, neg_ℤ}
+use Rattle.std.proofs.Math.IntN.{ℤ, pos, negsuc}
 use Rattle.std.proofs.lemmas.Fmt.{decimal_by_steps, length-decimal-le}
 use Rattle.std.proofs.lemmas.Int.{ints}
-use Rattle.std.proofs.lemmas.Bool.Decides.{nat_tests}
-use Rattle.lf_base.specs.Outcome.{Written, Outcome}
-use Rattle.lf_base.specs.Acts.{Stretch, Going, Stopped, Act, iterate}
-use Rattle.lf_base.proofs.Runs.{order_next, order_left, order_stopped, iterate_done, iterate_turn}
+use Rattle.lf_base.specs.Outcome.{Written}
+use Rattle.lf_base.specs.Acts.{Going, Act, iterate}
+use Rattle.lf_base.proofs.Runs.{order_next, iterate_done, iterate_turn}
 use Rattle.c_nodes.specs.declared.tree.CFile.{CFile}
 use Rattle.c_nodes.specs.declared.tree.CExpr.{CExpr}
 use Rattle.c_nodes.specs.declared.tree.CStmt.{CStmt}
 use Rattle.c_nodes.specs.declared.tree.CResult.TheVariants as result
 use Rattle.c_nodes.specs.declared.tree.CParameter.TheVariants as parameter
 use Rattle.c_nodes.specs.declared.tree.CType.TheVariants.{Int64, Byte}
-use Rattle.c_nodes.specs.declared.tree.CBinary.TheVariants.{Add, Subtract, Divide, Remainder, Less, Equal, Differ, And, Or}
+use Rattle.c_nodes.specs.declared.tree.CBinary.TheVariants.{Add, Subtract, Divide, Remainder, Less, Equal, Differ, Or}
 use Rattle.c_nodes.specs.declared.tree.CExpr.TheVariants.{Variable, Index, Constant, Paren, Binary}
 use Rattle.c_nodes.specs.declared.tree.CStmt.TheVariants.{Assign, Call, DeclareValue, DeclareArray, While, If}
-use Rattle.c_nodes.specs.CValues.{Width, W32, W64, Local, CValue, Number, fits, checked, truth, held_as}
+use Rattle.c_nodes.specs.CValues.{Width, W32, W64, Local, Number, fits, checked, truth}
 use Rattle.c_nodes.specs.CState.{Cells, Frame, State, nth, set_nth, element, no_names}
-use Rattle.c_nodes.specs.CMeaning.{reading, all_given, Element, block, tested, Calls, Doing, Procedure, stored_in, written_byte, call, on_procedure, calls_of, statement, statements}
+use Rattle.c_nodes.specs.CMeaning.{reading, all_given, Element, block, tested, Calls, Doing, Procedure, written_byte, call, on_procedure, calls_of, statement, statements}
 use Rattle.c_nodes.specs.HelperLaws.{HasPrelude, WritesInt}
 use Rattle.c_nodes.proofs.CExprs.{exprs}
-use Rattle.c_nodes.proofs.CNumbers.{holds_truth, fits64_nat, not_zero}
+use Rattle.c_nodes.proofs.CNumbers.{fits64_nat, not_zero}
 use Rattle.c_nodes.proofs.CRuns.{run_declare_value, run_declare_array, run_assign, run_call, run_tested, run_if_not, if_so, run_block, while_is}
 use Rattle.c_nodes.proofs.CCalls.{found, call_going, binds64, calls_putchar, prints}
 use Rattle.c_nodes.proofs.Digits.{filled, unset, unset_more, nth_filled, set_filled, filled_more, has_room, unset_all, signed, signed_rem, signed_div, byte_held, back, back-more, length-snoc, length-back, fits_smaller, signed_small, flipped, one_less, zero_only, zero_is}

@@ -1,5 +1,5 @@
 -- What each shape is in a scope, by what its parts are.
-use Rattle.std.proofs.Common.{◌≡◌, ℕ, Bool, ◌&&◌, List, map}
+use Rattle.std.proofs.Common.{◌≡◌, ℕ, ◌&&◌, List, map}
 use Rattle.std.specs.Prelude.{not, if◌then◌else◌, None}
 use Rattle.lf_base.specs.declared.name.Name.{Name}
 use Rattle.c_nodes.specs.declared.tree.CBinary.{CBinary}

@@ -1,10 +1,10 @@
 -- The prelude's product and difference of 64 bits: exact, or the trap of an overflow.
-use Rattle.std.proofs.Common.{◌≡◌, ℕ, zero, suc, ◌+◌, ◌≤◌, Bool, true, false, not, List, [], ◌∷◌, ◌++◌, map, Option, Some, None, codes, refl, sym, ap, subst, ◌∙◌, arith}
+use Rattle.std.proofs.Common.{◌≡◌, ℕ, suc, ◌≤◌, Bool, true, false, not, List, [], ◌∷◌, map, Some, None, codes, refl, ap, ◌∙◌, arith}
 use Rattle.std.specs.Prelude.{int_lt, int_div, ◌-ℤ◌, ◌+ℤ◌, ◌*ℤ◌, if◌then◌else◌}
-use Rattle.std.proofs.Math.IntN.{ℤ, pos, negsuc}
+use Rattle.std.proofs.Math.IntN.{ℤ, pos}
 use Rattle.std.proofs.lemmas.Int.{ints}
-use Rattle.lf_base.specs.Outcome.{Written, Outcome}
-use Rattle.lf_base.specs.Acts.{Stretch, Going, Stopped, Act}
+use Rattle.lf_base.specs.Outcome.{Written}
+use Rattle.lf_base.specs.Acts.{Going}
 use Rattle.lf_base.proofs.Runs.{order_next, order_left, order_stopped}
 use Rattle.c_nodes.specs.declared.tree.CFile.{CFile}
 use Rattle.c_nodes.specs.declared.tree.CExpr.{CExpr}
@@ -15,15 +15,15 @@ use Rattle.c_nodes.specs.declared.tree.CType.TheVariants.{Int64}
 use Rattle.c_nodes.specs.declared.tree.CBinary.TheVariants.{Add, Subtract, Multiply, Divide, Less, And, Or}
 use Rattle.c_nodes.specs.declared.tree.CExpr.TheVariants.{Variable, Constant, Greatest, Least, Paren, Binary}
 use Rattle.c_nodes.specs.declared.tree.CStmt.TheVariants.{Assign, DeclareValue, ReturnValue, If, IfElse}
-use Rattle.c_nodes.specs.CValues.{Width, W32, W64, Local, CValue, Number, fits, truth, greatest64, least64}
-use Rattle.c_nodes.specs.CState.{Cells, Frame, State, closed}
-use Rattle.c_nodes.specs.CMeaning.{reading, Element, block, Calls, Doing, Procedure, Flow, Returned, stored_in, call, on_procedure, calls_of, statement, statements}
+use Rattle.c_nodes.specs.CValues.{Width, W32, W64, Local, Number, fits, truth, greatest64, least64}
+use Rattle.c_nodes.specs.CState.{Cells, Frame, State}
+use Rattle.c_nodes.specs.CMeaning.{reading, Element, block, Calls, Doing, Procedure, Returned, stored_in, call, on_procedure, calls_of, statement, statements}
 use Rattle.c_nodes.specs.HelperLaws.{HasPrelude, overflows, value_or_overflow, Combines}
 use Rattle.c_nodes.proofs.CExprs.{exprs}
 use Rattle.c_nodes.proofs.CRuns.{run_declare_value, run_assign, run_return, run_if_not, if_so, if_then, if_else, run_block, stop_block}
 use Rattle.c_nodes.proofs.CCalls.{found, call_going, call_stopped}
 use Rattle.c_nodes.proofs.Arithmetic.{over_call, over_stops, two_frame, two_state, two_binds, combines}
-use Rattle.c_nodes.proofs.Products.{is_bad, bad_exactly, greatest_over, greatest_under, least_over, nonzero_over, nonzero_under}
+use Rattle.c_nodes.proofs.Products.{bad_exactly, greatest_over, greatest_under, least_over, nonzero_over, nonzero_under}
 
 -- `lf_sub`
 abbrev sub_test : CExpr

@@ -1,12 +1,12 @@
 -- The end by a trap: what the prelude's `lf_trap` writes, and its status.
-use Rattle.std.proofs.Common.{◌≡◌, ℕ, zero, suc, ◌+◌, ◌-◌, ◌%◌, ◌<◌, ◌≤◌, Bool, true, false, not, List, [], ◌∷◌, ◌++◌, length, map, Option, Some, None, codes, refl, sym, ap, subst, ◌∙◌, arith, length-append, append_assoc, append-nil, zero-add}
+use Rattle.std.proofs.Common.{◌≡◌, ℕ, zero, suc, ◌+◌, ◌<◌, ◌≤◌, Bool, true, false, not, List, [], ◌∷◌, ◌++◌, length, map, Option, Some, None, codes, refl, sym, ap, subst, ◌∙◌, arith, length-append, append_assoc, append-nil, zero-add}
 use Rattle.std.specs.List.{AllByRecursion}
 use Rattle.std.specs.Prelude.{nat_lt, ◌&&◌}
 use Rattle.std.proofs.lemmas.Bool.Decides.{nat_tests}
 use Rattle.std.specs.Ordering.{int_eq}
-use Rattle.std.proofs.Math.IntN.{ℤ, pos, negsuc}
-use Rattle.lf_base.specs.Outcome.{Written, Outcome, Ended}
-use Rattle.lf_base.specs.Acts.{Stretch, Going, Stopped, Act, iterate}
+use Rattle.std.proofs.Math.IntN.{ℤ, pos}
+use Rattle.lf_base.specs.Outcome.{Written, Ended}
+use Rattle.lf_base.specs.Acts.{Going, Stopped, Act, iterate}
 use Rattle.lf_base.proofs.Runs.{order_next, order_stopped, iterate_done, iterate_turn}
 use Rattle.c_nodes.specs.declared.tree.CFile.{CFile}
 use Rattle.c_nodes.specs.declared.tree.CExpr.{CExpr}
@@ -15,8 +15,8 @@ use Rattle.c_nodes.specs.declared.tree.CType.TheVariants.{Int64, Byte}
 use Rattle.c_nodes.specs.declared.tree.CBinary.TheVariants.{Add, Differ}
 use Rattle.c_nodes.specs.declared.tree.CExpr.TheVariants.{Variable, Index, Constant, Paren, Binary, ToInt, Literal}
 use Rattle.c_nodes.specs.declared.tree.CStmt.TheVariants.{DeclareValue, DeclarePointer, Assign, Call, While}
-use Rattle.c_nodes.specs.CValues.{Base, Local, Text, CValue, Number, Pointer, Errors, W32, W64, fits, truth}
-use Rattle.c_nodes.specs.CState.{Slot, Cells, Leads, Frame, State, no_names, nth, literal, element, closed}
+use Rattle.c_nodes.specs.CValues.{Local, Text, CValue, Number, Pointer, Errors, W32, W64, truth}
+use Rattle.c_nodes.specs.CState.{Cells, Leads, Frame, State, no_names, nth, literal, element}
 use Rattle.c_nodes.specs.CMeaning.{Reading, reading, reading_layer, Designated, Element, tested, block, Calls, Procedure, Flow, call, on_procedure, statement, statements, calls_of, written_byte}
 use Rattle.c_nodes.specs.CMeaning as meaning
 use Rattle.c_nodes.specs.HelperLaws.{HasPrelude}

@@ -2,13 +2,12 @@
 -- (6.7.8), statements (6.8), calls (6.5.2.2, 6.9.1), the start and the end of a program (5.1.2.2) and the
 -- library's `putchar`, `getchar`, `fputc` to `stderr` and `exit` (7.19.7, 7.20.4.3). What the standard
 -- leaves undefined is Undefined. `n` bounds the turns of one execution of a `while`, `d` the depth of calls.
-use Rattle.std.specs.Prelude.{ℕ, zero, suc, ◌+◌, ◌-◌, ◌%◌, nat_le, nat_lt, Bool, true, false, not, if◌then◌else◌, List, [], ◌∷◌, ◌++◌, map, length, replicate, Option, Some, None, pos, negsuc, codes, ◌+ℤ◌, int_le, unsigned_abs}
+use Rattle.std.specs.Prelude.{ℕ, zero, suc, ◌+◌, ◌-◌, nat_le, nat_lt, Bool, true, false, not, if◌then◌else◌, List, [], ◌∷◌, map, length, replicate, Option, Some, None, pos, negsuc, codes, unsigned_abs}
 use Rattle.std.specs.Int.{int_rem_euclid}
 use Rattle.std.specs.Str.{bytes_eq}
 use Rattle.std.proofs.Math.IntN.{ℤ}
-use Rattle.lf_base.specs.declared.name.Name.{Name}
-use Rattle.lf_base.specs.Outcome.{Written, Outcome, Meaning, Fault, Undefined, written}
-use Rattle.lf_base.specs.Acts.{Stretch, Act, bind, give, look, change, print, complain, stop, cut, wrong, given, next_or, in_order, within, iterate, outcome_of}
+use Rattle.lf_base.specs.Outcome.{Meaning, Undefined, written}
+use Rattle.lf_base.specs.Acts.{Act, bind, give, look, change, print, complain, stop, cut, wrong, given, in_order, within, iterate, outcome_of}
 use Rattle.c_nodes.specs.declared.tree.CType.{CType}
 use Rattle.c_nodes.specs.declared.tree.CResult.{CResult}
 use Rattle.c_nodes.specs.declared.tree.CResult.TheVariants as result
@@ -21,7 +20,7 @@ use Rattle.c_nodes.specs.declared.tree.CStmt.{CStmt, CStmt-F, fold-CStmt}
 use Rattle.c_nodes.specs.declared.tree.CItem.{CItem}
 use Rattle.c_nodes.specs.declared.tree.CItem.TheVariants.{Prototype, Function}
 use Rattle.c_nodes.specs.declared.tree.CFile.{CFile}
-use Rattle.c_nodes.specs.CValues.{Width, W32, W64, Base, Local, Text, CValue, Number, Pointer, Errors, greatest64, least64, checked, is_zero, truth, binary, both, either, negated, denied, constant, held_as, cast_to, to_int}
+use Rattle.c_nodes.specs.CValues.{W32, W64, Base, Local, Text, CValue, Number, Pointer, Errors, greatest64, least64, is_zero, binary, both, either, negated, denied, constant, held_as, cast_to, to_int}
 use Rattle.c_nodes.specs.CState.{Slot, Cells, Leads, Declared, Frame, State, no_names, find_name, object_at, read_at, write_at, put_object, declare, closed}
 
 -- what an expression designates, if it designates an object: an element, a whole array, or a pointer

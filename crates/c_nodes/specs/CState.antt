@@ -1,11 +1,11 @@
 -- The objects of a C program that runs, by the functions that are active: names and their scopes
 -- (ISO/IEC 9899:1999, 6.2.1), objects and how long they live (6.2.4), and access to them (6.5.2.1, 6.5.3.2).
-use Rattle.std.specs.Prelude.{ℕ, zero, suc, ◌+◌, ◌-◌, ◌==◌, nat_le, nat_lt, Bool, true, false, ◌&&◌, if◌then◌else◌, List, [], ◌∷◌, ◌++◌, map, length, drop, replicate, Option, Some, None, pos, negsuc, codes}
+use Rattle.std.specs.Prelude.{ℕ, zero, suc, ◌+◌, ◌-◌, ◌==◌, nat_lt, Bool, true, if◌then◌else◌, List, [], ◌∷◌, ◌++◌, map, length, drop, Option, Some, None, pos}
 use Rattle.std.specs.Str.{bytes_eq}
 use Rattle.std.proofs.Math.IntN.{ℤ}
 use Rattle.c_nodes.specs.declared.tree.CType.{CType}
 use Rattle.c_nodes.specs.declared.tree.CType.TheVariants.{Byte}
-use Rattle.c_nodes.specs.CValues.{Base, Local, Text, CValue, Number, Pointer, Errors, held_as, width_of}
+use Rattle.c_nodes.specs.CValues.{Base, Local, Text, CValue, Number, held_as, width_of}
 
 -- what a name stands for: an object of one or more elements, each a number if it was set; or a pointer
 pub data Slot : Type 0 where

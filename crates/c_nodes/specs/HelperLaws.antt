@@ -1,6 +1,6 @@
 -- What the functions of the prelude do, wherever they are called in a file that begins with it: for which
 -- arguments they answer which value, and where they end the program by which trap.
-use Rattle.std.specs.Prelude.{◌≡◌, ℕ, zero, suc, ◌+◌, ◌≤◌, Bool, true, false, List, [], ◌∷◌, ◌++◌, Option, Some, None, codes, length, ◌<◌, if◌then◌else◌, ◌&&◌, pos, ◌+ℤ◌, ◌-ℤ◌, ◌*ℤ◌}
+use Rattle.std.specs.Prelude.{◌≡◌, ℕ, suc, ◌+◌, ◌≤◌, Bool, true, false, List, [], ◌∷◌, ◌++◌, Option, Some, None, codes, length, ◌<◌, if◌then◌else◌, ◌&&◌, pos}
 use Rattle.std.specs.Fmt.{signed_decimal}
 use Rattle.std.specs.List.{AllByRecursion}
 use Rattle.std.specs.Ordering.{int_eq}
@@ -12,7 +12,7 @@ use Rattle.c_nodes.specs.declared.tree.CFile.{CFile}
 use Rattle.c_nodes.specs.declared.tree.CType.TheVariants.{Int64}
 use Rattle.c_nodes.specs.CValues.{Width, W32, W64, Local, Text, CValue, Number, Pointer, fits}
 use Rattle.c_nodes.specs.CState.{Cells, State, object_at, put_object}
-use Rattle.c_nodes.specs.CMeaning.{Calls, items_of, calls_of}
+use Rattle.c_nodes.specs.CMeaning.{items_of, calls_of}
 use Rattle.c_nodes.specs.Prelude.{prelude_items}
 
 -- The file of this number begins with the prelude.

@@ -1,25 +1,22 @@
 -- The printed C does what the program says.
-use Rattle.std.proofs.Common.{◌≡◌, ℕ, zero, suc, ◌+◌, ◌*◌, ◌^◌, ◌<◌, ◌≤◌, Bool, true, false, List, [], ◌∷◌, ◌++◌, length, map, Option, Some, None, codes, cond, refl, sym, ap, subst, ◌∙◌, arith, append_assoc, append-nil}
+use Rattle.std.proofs.Common.{◌≡◌, ℕ, suc, ◌+◌, ◌^◌, ◌<◌, ◌≤◌, true, false, List, [], ◌∷◌, ◌++◌, length, map, Option, Some, None, codes, cond, refl, sym, ap, subst, ◌∙◌, arith, append_assoc, append-nil}
 use Rattle.std.specs.Fmt.{signed_decimal}
 use Rattle.std.proofs.Math.IntN.{ℤ, pos}
 use Rattle.std.proofs.lemmas.Int.{ints}
-use Rattle.lf_base.specs.Outcome.{Place, Written, Fault, Outcome, Ended, Cut, Wrong, IsBegun, Extends, KeepsPlace, written}
-use Rattle.lf_base.specs.Acts.{Stretch, Going, Stopped, Act, bind, give, print, outcome_of}
+use Rattle.lf_base.specs.Outcome.{Place, Written, Outcome, Ended, Cut, Wrong, IsBegun, Extends, KeepsPlace, written}
+use Rattle.lf_base.specs.Acts.{Going, Stopped, bind, give, print, outcome_of}
 use Rattle.lf_base.specs.Near.{IsSound, IsNearBy, slack, Near, Agree, IsMonotone}
 use Rattle.lf_base.proofs.Links.{one_link}
 use Rattle.lf_base.proofs.Outcomes.{begun_same}
-use Rattle.lf_base.proofs.Runs.{bind_going, bind_stopped, order_next, order_left, order_stopped, within_going, within_stopped}
+use Rattle.lf_base.proofs.Runs.{bind_going, bind_stopped, order_next, order_left, order_stopped}
 use Rattle.c_nodes.specs.declared.tree.CFile.{CFile}
-use Rattle.c_nodes.specs.declared.tree.CItem.{CItem}
 use Rattle.c_nodes.specs.declared.tree.CStmt.{CStmt}
 use Rattle.c_nodes.specs.declared.tree.CType.TheVariants.{Int64}
-use Rattle.c_nodes.specs.declared.tree.CResult.TheVariants as result
 use Rattle.c_nodes.specs.declared.tree.CExpr.TheVariants.{Variable, Constant, Address}
 use Rattle.c_nodes.specs.declared.tree.CStmt.TheVariants.{DeclareValue, Call, Return, ReturnValue, Block}
-use Rattle.c_nodes.specs.CValues.{W32, W64, Local, CValue, Number, Pointer, fits}
-use Rattle.c_nodes.specs.CState.{read_from, Slot, Cells, Declared, Frame, State, no_names, find_name, slot_of, put_object, with_slot, closed}
-use Rattle.c_nodes.specs.CMeaning.{reading, Element, address_of, designated, within_object, variable_value, all_given, written_byte, Flow, Returned, Doing, Calls, Procedure, calls_of, call, on_procedure, function_of, first_of, external_in, block, statement_layer, statement, statements, status_of, begin, main_of, run_main, CMeaning}
-use Rattle.c_nodes.specs.Prelude.{prelude_items}
+use Rattle.c_nodes.specs.CValues.{W32, W64, Local, Number, Pointer, fits}
+use Rattle.c_nodes.specs.CState.{read_from, Slot, Cells, State, no_names, find_name, slot_of, put_object, with_slot, closed}
+use Rattle.c_nodes.specs.CMeaning.{Element, address_of, designated, within_object, variable_value, all_given, written_byte, Returned, Doing, Calls, calls_of, call, on_procedure, first_of, external_in, block, statement_layer, statement, statements, status_of, begin, CMeaning}
 use Rattle.c_nodes.specs.HelperLaws.{HasPrelude, overflows}
 use Rattle.c_nodes.proofs.StmtInduction.{fold-Return, fold-Block}
 use Rattle.c_nodes.proofs.CExprs.{exprs}
@@ -28,10 +25,10 @@ use Rattle.c_nodes.proofs.CCalls.{calls_putchar, prints, call_going}
 use Rattle.c_nodes.proofs.CMonotone.{meaning_monotone}
 use Rattle.c_nodes.proofs.Gap.{gap_law}
 use Rattle.c_nodes.proofs.Ints.{int_law}
-use Rattle.lf_driver.specs.Source.{Tree, Source}
+use Rattle.lf_driver.specs.Source.{Source}
 use Rattle.lf_driver.specs.Lowered.{temporary, temporary_value, count, lowered, printing_begins, printing_ends, printed, init_name, lowered_items, lowered_file, main_body}
 use Rattle.lf_driver.specs.Fortran.{IsSmall, value_of, value_or_trap, FortranMeaning, overflow_text}
-use Rattle.lf_driver.proofs.Temporaries.{Few, temp, temps, record_variable, other_id, same_id, same_name}
+use Rattle.lf_driver.proofs.Temporaries.{temp, temps, record_variable, other_id, same_id, same_name}
 use Rattle.lf_driver.proofs.Evaluates.{main_state, Ends, lowered_ends, append_going, append_stopped}
 use Rattle.lf_driver.proofs.ProgramNames.{init_procedure, init_found}
 

@@ -1,26 +1,24 @@
 -- What the statements of a lowered value do: they end with its value in the last temporary, or in the trap.
-use Rattle.std.proofs.Common.{◌≡◌, ℕ, zero, suc, ◌+◌, ◌<◌, ◌≤◌, Bool, true, false, ◌&&◌, List, [], ◌∷◌, ◌++◌, length, map, Option, Some, None, codes, cond, refl, sym, ap, subst, ◌∙◌, arith, length-append, append_assoc}
-use Rattle.std.specs.Prelude.{◌+ℤ◌, ◌-ℤ◌, ◌*ℤ◌}
-use Rattle.std.proofs.Math.IntN.{ℤ, pos, negsuc}
+use Rattle.std.proofs.Common.{◌≡◌, ℕ, suc, ◌+◌, ◌≤◌, Bool, true, false, List, [], ◌∷◌, ◌++◌, length, map, Option, Some, None, codes, cond, refl, sym, ap, subst, ◌∙◌, arith, length-append, append_assoc}
+use Rattle.std.proofs.Math.IntN.{ℤ, pos}
 use Rattle.std.proofs.lemmas.Int.{ints}
 use Rattle.lf_base.specs.Outcome.{Written, Outcome, Undefined}
-use Rattle.lf_base.specs.Acts.{Stretch, Going, Stopped, Act, then_do, next_or, in_order, bind, change, give, given}
-use Rattle.lf_base.proofs.Runs.{order_next, order_left, order_stopped, bind_stopped}
+use Rattle.lf_base.specs.Acts.{Stretch, Going, Stopped, then_do, next_or, bind, change, give, given}
+use Rattle.lf_base.proofs.Runs.{order_next, order_stopped, bind_stopped}
 use Rattle.c_nodes.specs.declared.tree.CFile.{CFile}
 use Rattle.c_nodes.specs.declared.tree.CStmt.{CStmt}
 use Rattle.lf_base.specs.declared.name.Name.{Name}
 use Rattle.c_nodes.specs.declared.tree.CType.{CType}
 use Rattle.c_nodes.specs.declared.tree.CExpr.{CExpr}
 use Rattle.c_nodes.specs.declared.tree.CType.TheVariants.{Int64}
-use Rattle.c_nodes.specs.declared.tree.CExpr.TheVariants.{Variable, Constant}
-use Rattle.c_nodes.specs.declared.tree.CStmt.TheVariants.{DeclareValue, DeclareCall}
+use Rattle.c_nodes.specs.declared.tree.CExpr.TheVariants.{Constant}
+use Rattle.c_nodes.specs.declared.tree.CStmt.TheVariants.{DeclareCall}
 use Rattle.c_nodes.specs.CValues.{Width, W32, W64, Local, CValue, Number, fits}
-use Rattle.c_nodes.specs.CState.{Slot, Cells, Declared, Frame, State, declare, read_from, slot_of, find_name, put_object, with_slot}
-use Rattle.c_nodes.specs.CMeaning.{reading, variable_value, value_at, Element, stored_in, fresh, newest, all_given, answer, answered, initialize, Flow, Doing, Calls, calls_of, statement_layer, statement, statements}
+use Rattle.c_nodes.specs.CState.{Frame, State, declare, read_from}
+use Rattle.c_nodes.specs.CMeaning.{reading, variable_value, Element, stored_in, fresh, all_given, answer, answered, initialize, Flow, Doing, Calls, calls_of, statement_layer, statement, statements}
 use Rattle.c_nodes.specs.HelperLaws.{HasPrelude, overflows, value_or_overflow, Combines}
 use Rattle.c_nodes.proofs.CExprs.{exprs}
-use Rattle.c_nodes.proofs.CNumbers.{fits64_nat, fits32_nat}
-use Rattle.c_nodes.proofs.CRuns.{run_declare_value, run_declare_call, run_answered, stop_answer}
+use Rattle.c_nodes.proofs.CRuns.{run_declare_value, run_declare_call, stop_answer}
 use Rattle.c_nodes.proofs.StmtInduction.{fold-DeclareCall}
 use Rattle.c_nodes.proofs.Arithmetic.{add_law, fit_law}
 use Rattle.c_nodes.proofs.Multiply.{sub_law, mul_law}
@@ -29,7 +27,7 @@ use Rattle.lf_driver.specs.declared.program.Operator.TheVariants.{Add, Subtract,
 use Rattle.lf_driver.specs.Source.{Tree, Literal, Binary}
 use Rattle.lf_driver.specs.Lowered.{temporary, temporary_value, helper, constant, computed, fitted, operation, count, lowered}
 use Rattle.lf_driver.specs.Fortran.{IsSmall, exact, operated, of_kind4, value_of}
-use Rattle.lf_driver.proofs.Temporaries.{Few, temp, temps, same_id, Holds, holds_temp, holds_behind}
+use Rattle.lf_driver.proofs.Temporaries.{Few, temps, same_id, Holds, holds_temp, holds_behind}
 
 -- the statements of two lists, one behind the other
 pub statements_append : (n : ℕ) (calls : Calls) (xs ys : List CStmt) (s : State) (w : Written) → statements n calls (xs ++ ys) s w ≡ then_do (statements n calls xs s w) (next_or (statements n calls ys))

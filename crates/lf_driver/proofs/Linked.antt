@@ -11,8 +11,8 @@ use Rattle.c_nodes.specs.declared.tree.CExpr.{CExpr}
 use Rattle.c_nodes.specs.declared.tree.CExpr.TheVariants.{Variable, Constant, Address}
 use Rattle.c_nodes.specs.declared.tree.CItem.TheVariants.{Prototype, Function}
 use Rattle.c_nodes.specs.declared.tree.CStmt.{CStmt}
-use Rattle.c_nodes.specs.declared.tree.CStmt.TheVariants.{DeclareCall, DeclareValue, Call, Return, ReturnValue, Block}
-use Rattle.c_nodes.specs.Linking.{Typed, Object, Number, Leads, is_number, Entry, Scope, first_or, is_declared, type_of_name, type_of, Taken, ANumber, APointer, Signature, library, signature_of, address_of, given_by, call_gives, is_call, is_value, kept_if, Step, declared, initialized, on_scope, in_turn, is_right, is_block, step, signature, outermost, is_right_body, are_right, known_behind, is_right_file, functions_of, externals_of, are_distinct, is_among, IsProgram}
+use Rattle.c_nodes.specs.declared.tree.CStmt.TheVariants.{DeclareCall, Call, Return, ReturnValue, Block}
+use Rattle.c_nodes.specs.Linking.{Typed, Object, Number, Leads, is_number, Entry, Scope, first_or, is_declared, type_of, ANumber, APointer, Signature, library, signature_of, address_of, given_by, call_gives, is_call, is_value, kept_if, Step, declared, initialized, on_scope, in_turn, is_right, step, signature, outermost, is_right_body, are_right, known_behind, is_right_file, functions_of, externals_of, are_distinct, is_among, IsProgram}
 use Rattle.c_nodes.specs.Prelude.{prelude_items}
 use Rattle.c_nodes.proofs.LinkingShapes.{links, type_of-Variable, type_of-Constant, type_of-Address, step-DeclareValue, step-DeclareCall, step-Call, step-Return, step-ReturnValue, step-Block}
 use Rattle.c_nodes.proofs.LinkingPrelude.{prelude_right}

@@ -1,13 +1,13 @@
 -- What a text that holds a program says of its size: names and counts of tokens are short, names are letters, digits
 -- and underscores, and literals are of kind 4.
-use Rattle.std.proofs.Common.{◌≡◌, ℕ, zero, suc, ◌+◌, ◌*◌, ◌-◌, ◌^◌, ◌<◌, ◌≤◌, Bool, true, false, List, [], ◌∷◌, ◌++◌, length, Option, Some, None, Result, Ok, Err, codes, cond, refl, sym, ap, subst, ◌∙◌, arith}
+use Rattle.std.proofs.Common.{◌≡◌, ℕ, zero, suc, ◌+◌, ◌*◌, ◌-◌, ◌^◌, ◌<◌, ◌≤◌, Bool, true, false, List, [], ◌∷◌, length, Option, Some, None, Ok, Err, codes, cond, refl, ap, subst, ◌∙◌, arith}
 use Rattle.std.specs.Prelude.{nat_lt, nat_le, ◌&&◌, ◌||◌}
 use Rattle.std.specs.List.{AllByRecursion, list_all}
 use Rattle.std.proofs.lemmas.Bool.Decides.{nat_tests}
-use Rattle.lf_base.specs.declared.rule.Rule.TheVariants.{E108, E202}
+use Rattle.lf_base.specs.declared.rule.Rule.TheVariants.{E108}
 use Rattle.ff_lexer.specs.declared.token.Kind.{Kind}
 use Rattle.ff_lexer.specs.declared.token.Kind.TheVariants.{Word, Number, Text, Mark}
-use Rattle.ff_lexer.specs.Statements.{Spelled, Found, is_letter, is_digit, is_underscore, is_name_byte, is_mark, is_blank, front, name, token_at, put_first, then_behind, tokens_behind, fitting, tokens_of, ahead, on_line, from_lines, statements_of, lines_of, greatest_source}
+use Rattle.ff_lexer.specs.Statements.{Spelled, Found, is_letter, is_digit, is_underscore, is_name_byte, is_mark, is_blank, front, name, token_at, put_first, then_behind, tokens_behind, tokens_of, ahead, on_line, from_lines, statements_of, lines_of, greatest_source}
 use Rattle.lf_driver.specs.declared.program.Operator.{Operator}
 use Rattle.lf_driver.specs.declared.program.Operator.TheVariants.{Add, Subtract, Multiply}
 use Rattle.lf_driver.specs.Source.{Tree, Literal, Binary, Source, Operation, Chain, Judged, grouped, tree_of, value_behind, literal_of, operator_of, operations_of, chain, chain_of, word_of, name_of, printed_of, is_word, is_end, alone, ended_by, with_value, printing, with_name, program_of, refused}

@@ -1,5 +1,5 @@
 -- What the status of a call tells, status by status.
-use Rattle.std.specs.Prelude.{◌≡◌, ℕ, zero, suc, List, [], ◌∷◌, codes, Option, Some, None, IsSome, ◌⊎◌}
+use Rattle.std.specs.Prelude.{◌≡◌, ℕ, zero, suc, List, [], ◌∷◌, codes, Option, None, IsSome, ◌⊎◌}
 use Rattle.std.specs.Fmt.{decimal}
 use Rattle.lf_base.specs.declared.rule.Rule.{Rule}
 use Rattle.lf_base.specs.Causes.{Rose}

@@ -3,10 +3,10 @@
 -- blank, which is written before the value is computed, and ends with a newline (13.10.4); an integer that does
 -- not fit is the trap IntegerOverflow at the line of the statement. Integers print in their fewest digits. Names
 -- of traps, their numbers and the blank's time are this compiler's own.
-use Rattle.std.specs.Prelude.{ℕ, ◌≤◌, Bool, true, false, ◌&&◌, if◌then◌else◌, List, [], ◌∷◌, ◌++◌, codes, Option, Some, None, pos, negsuc, ◌+ℤ◌, ◌-ℤ◌, ◌*ℤ◌, int_le}
+use Rattle.std.specs.Prelude.{ℕ, ◌≤◌, Bool, ◌&&◌, if◌then◌else◌, List, [], ◌++◌, codes, Option, Some, None, pos, negsuc, ◌+ℤ◌, ◌-ℤ◌, ◌*ℤ◌, int_le}
 use Rattle.std.specs.Fmt.{signed_decimal}
 use Rattle.std.proofs.Math.IntN.{ℤ}
-use Rattle.lf_base.specs.Outcome.{Place, Meaning, Fault, Stuck, written}
+use Rattle.lf_base.specs.Outcome.{Place, Meaning, written}
 use Rattle.lf_base.specs.Acts.{Act, bind, give, print, trap, outcome_of}
 use Rattle.lf_driver.specs.declared.program.Operator.{Operator}
 use Rattle.lf_driver.specs.declared.program.Operator.TheVariants.{Add, Subtract, Multiply}

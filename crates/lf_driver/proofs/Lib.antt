@@ -1,5 +1,6 @@
 pub mod Agrees
 pub mod Evaluates
+pub mod Exact
 pub mod Grammatical
 pub mod HeadlineLemmas
 pub mod Linked

@@ -1,5 +1,5 @@
 -- What the status of a call tells, status by status.
-use Rattle.std.specs.Prelude.{◌≡◌, ℕ, zero, suc, List, [], ◌∷◌, codes, Option, None, IsSome, ◌⊎◌}
+use Rattle.std.specs.Prelude.{◌≡◌, ℕ, zero, suc, ◌-◌, ◌^◌, ◌<◌, List, [], ◌∷◌, codes, Option, Some, None, IsSome, ◌⊎◌}
 use Rattle.std.specs.Fmt.{decimal}
 use Rattle.lf_base.specs.declared.rule.Rule.{Rule}
 use Rattle.lf_base.specs.Causes.{Rose}
@@ -8,7 +8,7 @@ use Rattle.lf_base.specs.Files.{Files}
 use Rattle.lf_base.specs.Rules.{number_of}
 use Rattle.lf_driver.specs.declared.outcome.Outcome.{Outcome}
 use Rattle.lf_driver.specs.Words.{words_of}
-use Rattle.lf_driver.specs.Verdict.{verdict}
+use Rattle.lf_driver.specs.Verdict.{Verdict, verdict}
 use Rattle.lf_driver.specs.Verdict as judged
 use Rattle.lf_driver.specs.Ends.{Told, Written, ComesTo, GainsBoth, text_of}
 
@@ -67,3 +67,18 @@ Answered (suc (suc (suc (suc zero)))) c =
 Answered (suc (suc (suc (suc (suc zero))))) c =
     (c.new ≡ c.old) × (c.reads' ≡ c.reads) × (c.writes' ≡ c.writes) × (AppendsPart c.held c.held' (codes "lf: out of memory\n") ⊎ InPlace c (codes "lf: out of memory\n"))
 Answered (suc (suc (suc (suc (suc (suc status)))))) c = ⊥
+
+-- no count stood at its greatest number, where it cannot rise
+abbrev pub Counting : Call → Type 0
+Counting c = (c.reads < 2 ^ 64 - 1) × (c.writes < 2 ^ 64 - 1) × (c.faults < 2 ^ 64 - 1)
+
+-- the status of a verdict
+abbrev pub status_by : Verdict → ℕ
+status_by (judged.Done name bytes) = 0
+status_by (judged.Refused name line rule) = 1
+status_by (judged.Absent name) = 2
+status_by judged.Usage = 2
+
+-- Where the store tells its files and no count rose, the status is the verdict's, or memory ran out.
+abbrev pub IsExact : ℕ → Call → Type 0
+IsExact status c = (files : Files) → c.old ≡ Some files → Quiet c → Counting c → (status ≡ status_by (verdict c.words files)) ⊎ (status ≡ 5)

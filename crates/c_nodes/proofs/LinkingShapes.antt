@@ -1,5 +1,5 @@
 -- What each shape is in a scope, by what its parts are.
-use Rattle.std.proofs.Common.{◌≡◌, ℕ, ◌&&◌, List, map}
+use Rattle.std.proofs.Common.{◌≡◌, ℕ, Bool, true, ◌&&◌, List, map}
 use Rattle.std.specs.Prelude.{not, if◌then◌else◌, None}
 use Rattle.lf_base.specs.declared.name.Name.{Name}
 use Rattle.c_nodes.specs.declared.tree.CBinary.{CBinary}
@@ -10,7 +10,7 @@ use Rattle.c_nodes.specs.declared.tree.CExpr.{CExpr}
 use Rattle.c_nodes.specs.declared.tree.CExpr.TheVariants.{Variable, Index, Constant, Greatest, Least, Paren, Negate, Not, Binary, Cast, ToInt, Address, Literal}
 use Rattle.c_nodes.specs.declared.tree.CStmt.{CStmt}
 use Rattle.c_nodes.specs.declared.tree.CStmt.TheVariants.{Declare, DeclareArray, DeclareValue, DeclarePointer, DeclareCall, Assign, AssignCall, Call, Return, ReturnValue, ReturnCall, Block, While, If, IfElse}
-use Rattle.c_nodes.specs.Linking.{Typed, Object, Number, Array, Leads, is_number, leads_to, number_if, element_if, address_of, typed_layer, Scope, type_of_name, type_of, Signature, call_gives, is_void, is_call, is_value, may_assign, Step, kept_if, declared, initialized, is_block, step_layer, step}
+use Rattle.c_nodes.specs.Linking.{Typed, Object, Number, Array, Leads, is_number, leads_to, number_if, element_if, address_of, typed_layer, Scope, type_of_name, type_of, Signature, call_gives, is_void, is_call, is_value, may_assign, Step, kept_if, declared, initialized, is_block, step_layer, step, all_do, calls_layer, calls_only}
 use Rattle.c_nodes.proofs.ExprInduction as expressions
 use Rattle.c_nodes.proofs.StmtInduction as statements
 
@@ -99,3 +99,50 @@ pub step-IfElse : (known : List Signature) (gives : CResult) (test : CExpr) (the
 step-IfElse known gives test then_body else_body = statements.fold-IfElse Step (step_layer known gives) test then_body else_body
 
 pub ruleset links = (type_of-Variable, type_of-Index, type_of-Constant, type_of-Greatest, type_of-Least, type_of-Paren, type_of-Negate, type_of-Not, type_of-Binary, type_of-Cast, type_of-ToInt, type_of-Address, type_of-Literal, step-Declare, step-DeclareArray, step-DeclareValue, step-DeclarePointer, step-DeclareCall, step-Assign, step-AssignCall, step-Call, step-Return, step-ReturnValue, step-ReturnCall, step-Block, step-While, step-If, step-IfElse)
+
+pub calls_only-Declare : (test : List ℕ → Bool) (kind : CType) (name : Name) → calls_only test (Declare kind name) ≡ true
+calls_only-Declare test kind name = statements.fold-Declare Bool (calls_layer test) kind name
+
+pub calls_only-DeclareArray : (test : List ℕ → Bool) (kind : CType) (name : Name) (size : CExpr) → calls_only test (DeclareArray kind name size) ≡ true
+calls_only-DeclareArray test kind name size = statements.fold-DeclareArray Bool (calls_layer test) kind name size
+
+pub calls_only-DeclareValue : (test : List ℕ → Bool) (kind : CType) (name : Name) (value : CExpr) → calls_only test (DeclareValue kind name value) ≡ true
+calls_only-DeclareValue test kind name value = statements.fold-DeclareValue Bool (calls_layer test) kind name value
+
+pub calls_only-DeclarePointer : (test : List ℕ → Bool) (kind : CType) (name : Name) (value : CExpr) → calls_only test (DeclarePointer kind name value) ≡ true
+calls_only-DeclarePointer test kind name value = statements.fold-DeclarePointer Bool (calls_layer test) kind name value
+
+pub calls_only-DeclareCall : (test : List ℕ → Bool) (kind : CType) (name callee : Name) (arguments : List CExpr) → calls_only test (DeclareCall kind name callee arguments) ≡ test callee
+calls_only-DeclareCall test kind name callee arguments = statements.fold-DeclareCall Bool (calls_layer test) kind name callee arguments
+
+pub calls_only-Assign : (test : List ℕ → Bool) (target value : CExpr) → calls_only test (Assign target value) ≡ true
+calls_only-Assign test target value = statements.fold-Assign Bool (calls_layer test) target value
+
+pub calls_only-AssignCall : (test : List ℕ → Bool) (target : CExpr) (callee : Name) (arguments : List CExpr) → calls_only test (AssignCall target callee arguments) ≡ test callee
+calls_only-AssignCall test target callee arguments = statements.fold-AssignCall Bool (calls_layer test) target callee arguments
+
+pub calls_only-Call : (test : List ℕ → Bool) (callee : Name) (arguments : List CExpr) → calls_only test (Call callee arguments) ≡ test callee
+calls_only-Call test callee arguments = statements.fold-Call Bool (calls_layer test) callee arguments
+
+pub calls_only-Return : (test : List ℕ → Bool) → calls_only test Return ≡ true
+calls_only-Return test = statements.fold-Return Bool (calls_layer test)
+
+pub calls_only-ReturnValue : (test : List ℕ → Bool) (value : CExpr) → calls_only test (ReturnValue value) ≡ true
+calls_only-ReturnValue test value = statements.fold-ReturnValue Bool (calls_layer test) value
+
+pub calls_only-ReturnCall : (test : List ℕ → Bool) (callee : Name) (arguments : List CExpr) → calls_only test (ReturnCall callee arguments) ≡ test callee
+calls_only-ReturnCall test callee arguments = statements.fold-ReturnCall Bool (calls_layer test) callee arguments
+
+pub calls_only-Block : (test : List ℕ → Bool) (body : List CStmt) → calls_only test (Block body) ≡ all_do (map (calls_only test) body)
+calls_only-Block test body = statements.fold-Block Bool (calls_layer test) body
+
+pub calls_only-While : (test : List ℕ → Bool) (condition : CExpr) (body : List CStmt) → calls_only test (While condition body) ≡ all_do (map (calls_only test) body)
+calls_only-While test condition body = statements.fold-While Bool (calls_layer test) condition body
+
+pub calls_only-If : (test : List ℕ → Bool) (condition : CExpr) (then_body : List CStmt) → calls_only test (If condition then_body) ≡ all_do (map (calls_only test) then_body)
+calls_only-If test condition then_body = statements.fold-If Bool (calls_layer test) condition then_body
+
+pub calls_only-IfElse : (test : List ℕ → Bool) (condition : CExpr) (then_body else_body : List CStmt) → calls_only test (IfElse condition then_body else_body) ≡ all_do (map (calls_only test) then_body) && all_do (map (calls_only test) else_body)
+calls_only-IfElse test condition then_body else_body = statements.fold-IfElse Bool (calls_layer test) condition then_body else_body
+
+pub ruleset callings = (calls_only-Declare, calls_only-DeclareArray, calls_only-DeclareValue, calls_only-DeclarePointer, calls_only-DeclareCall, calls_only-Assign, calls_only-AssignCall, calls_only-Call, calls_only-Return, calls_only-ReturnValue, calls_only-ReturnCall, calls_only-Block, calls_only-While, calls_only-If, calls_only-IfElse)

@@ -314,17 +314,54 @@ abbrev pub are_distinct : List Signature → Bool
 are_distinct [] = true
 are_distinct (s ∷ ss) = not (has_name s.name ss) && are_distinct ss
 
--- what is declared here is one of these
-abbrev pub is_among : List Signature → CItem → Bool
-is_among defined (Prototype gives name parameters) = list_any (same_signature (signature gives name parameters)) defined
-is_among defined (Function is_static gives name parameters body) = true
+-- the functions that other files may see, as an item declares them
+abbrev pub shown_by : CItem → List Signature
+shown_by (Prototype gives name parameters) = signature gives name parameters ∷ []
+shown_by (Function true gives name parameters body) = []
+shown_by (Function false gives name parameters body) = signature gives name parameters ∷ []
+
+abbrev pub shown_in : List CFile → List Signature
+shown_in files = flat_map (λ file. flat_map shown_by file.items) files
+
+-- declarations of one name are the same
+abbrev pub are_agreed : List Signature → Bool
+are_agreed [] = true
+are_agreed (s ∷ ss) = list_all (λ other. not (bytes_eq s.name other.name) || same_signature s other) ss && are_agreed ss
+
+-- each statement of a block does
+abbrev pub all_do : List Bool → Bool
+all_do = list_all (λ does. does)
+
+-- one shape of a statement: whether each function that it calls passes the test
+abbrev pub calls_layer : (List ℕ → Bool) → CStmt-F Bool → Bool
+calls_layer test (CStmt-F.DeclareCall kind name callee arguments) = test callee
+calls_layer test (CStmt-F.AssignCall target callee arguments) = test callee
+calls_layer test (CStmt-F.Call callee arguments) = test callee
+calls_layer test (CStmt-F.ReturnCall callee arguments) = test callee
+calls_layer test (CStmt-F.Block body) = all_do body
+calls_layer test (CStmt-F.While condition body) = all_do body
+calls_layer test (CStmt-F.If condition then_body) = all_do then_body
+calls_layer test (CStmt-F.IfElse condition then_body else_body) = all_do then_body && all_do else_body
+calls_layer test stmt = true
+
+abbrev pub calls_only : (List ℕ → Bool) → CStmt → Bool
+calls_only test = fold-CStmt Bool (calls_layer test)
+
+abbrev pub item_calls_only : (List ℕ → Bool) → CItem → Bool
+item_calls_only test (Prototype gives name parameters) = true
+item_calls_only test (Function is_static gives name parameters body) = list_all (calls_only test) body
+
+-- the library has the function, or the file, or another file that shows it
+abbrev pub is_defined : List CFile → CFile → List ℕ → Bool
+is_defined files file name = has_name name library || has_name name (functions_of file) || has_name name (externals_of files)
 
 pub record IsProgram (files : List CFile) : Type 0 where
   pub right : IsTrue (list_all is_right_file files)
   -- a file defines each of its functions once, and none of the library's
   pub once : IsTrue (list_all (λ file. are_distinct (library ++ functions_of file)) files)
-  -- what files see of each other is defined once
+  -- what files see of each other is defined once, and declared alike
   pub external : IsTrue (are_distinct (externals_of files))
-  -- what a file declares is defined, in it or in another
-  pub defined : IsTrue (list_all (λ file. list_all (is_among (externals_of files)) file.items) files)
+  pub agreed : IsTrue (are_agreed (shown_in files))
+  -- what a file calls is defined
+  pub defined : IsTrue (list_all (λ file. list_all (item_calls_only (is_defined files file)) file.items) files)
   pub main : IsTrue (has_name (codes "main") (externals_of files))

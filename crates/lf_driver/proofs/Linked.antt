@@ -5,6 +5,7 @@ use Rattle.std.specs.List.{list_all}
 use Rattle.std.specs.Str.{bytes_eq}
 use Rattle.std.proofs.lemmas.Bool.Decides.{nat_tests}
 use Rattle.std.proofs.lemmas.List.{map-append}
+use Rattle.std.proofs.lemmas.List.Folds.{list_all-append, list_all-map}
 use Rattle.c_nodes.specs.declared.tree.CType.TheVariants.{Int64, Int32}
 use Rattle.c_nodes.specs.declared.tree.CResult.TheVariants as result
 use Rattle.c_nodes.specs.declared.tree.CExpr.{CExpr}
@@ -12,9 +13,9 @@ use Rattle.c_nodes.specs.declared.tree.CExpr.TheVariants.{Variable, Constant, Ad
 use Rattle.c_nodes.specs.declared.tree.CItem.TheVariants.{Prototype, Function}
 use Rattle.c_nodes.specs.declared.tree.CStmt.{CStmt}
 use Rattle.c_nodes.specs.declared.tree.CStmt.TheVariants.{DeclareCall, Call, Return, ReturnValue, Block}
-use Rattle.c_nodes.specs.Linking.{Typed, Object, Number, Leads, is_number, Entry, Scope, first_or, is_declared, type_of, ANumber, APointer, Signature, library, signature_of, address_of, given_by, call_gives, is_call, is_value, kept_if, Step, declared, initialized, on_scope, in_turn, is_right, step, signature, outermost, is_right_body, are_right, known_behind, is_right_file, functions_of, externals_of, are_distinct, is_among, IsProgram}
+use Rattle.c_nodes.specs.Linking.{Typed, Object, Number, Leads, is_number, Entry, Scope, first_or, is_declared, type_of, ANumber, APointer, Signature, library, signature_of, address_of, given_by, call_gives, is_call, is_value, kept_if, Step, declared, initialized, on_scope, in_turn, is_right, step, signature, outermost, is_right_body, are_right, known_behind, is_right_file, functions_of, externals_of, has_name, are_distinct, shown_in, are_agreed, calls_only, item_calls_only, is_defined, IsProgram}
 use Rattle.c_nodes.specs.Prelude.{prelude_items}
-use Rattle.c_nodes.proofs.LinkingShapes.{links, type_of-Variable, type_of-Constant, type_of-Address, step-DeclareValue, step-DeclareCall, step-Call, step-Return, step-ReturnValue, step-Block}
+use Rattle.c_nodes.proofs.LinkingShapes.{links, callings, type_of-Variable, type_of-Constant, type_of-Address, step-DeclareValue, step-DeclareCall, step-Call, step-Return, step-ReturnValue, step-Block}
 use Rattle.c_nodes.proofs.LinkingPrelude.{prelude_right}
 use Rattle.lf_driver.specs.declared.program.Operator.{Operator}
 use Rattle.lf_driver.specs.declared.program.Operator.TheVariants.{Add, Subtract, Multiply}
@@ -132,6 +133,10 @@ append_by xs ys h (Some t) = h t
 in_turn_append : (xs ys : List Step) (s : Scope) → in_turn (xs ++ ys) s ≡ on_scope (in_turn xs s) (in_turn ys)
 in_turn_append [] ys s = refl
 in_turn_append (x ∷ xs) ys s = append_by xs ys (in_turn_append xs ys) (x.behind s)
+
+or_true : (b : Bool) → b || true ≡ true
+or_true true = refl
+or_true false = refl
 
 module _ (init : List ℕ) (found : Finds init) where
   abbrev main_step : CStmt → Step
@@ -269,14 +274,63 @@ once_of source short =
     ap (λ i. are_distinct (library ++ functions_of (record { items = prelude_items ++ (Prototype result.Void i [] ∷ Function false result.Void i [] (Return ∷ []) ∷ Function false result.Int (codes "main") [] (main_body source) ∷ []) }))) is
     ∙ once_in d.first d.rest source.name (main_body source) d.small
 
-defined_of : (source : Source) → list_all (is_among (externals_of (lowered_file source ∷ []))) (lowered_file source).items ≡ true
-defined_of source = simp (same_name (init_name source.name)) refl
+-- what the file's functions call is defined
+abbrev there : Source → List ℕ → Bool
+there source = is_defined (lowered_file source ∷ []) (lowered_file source)
+
+prelude_calls : (source : Source) → list_all (item_calls_only (there source)) prelude_items ≡ true
+prelude_calls source = simp callings refl
+
+init_there : (source : Source) → there source (init_name source.name) ≡ true
+init_there source =
+    let init = init_name source.name in
+    ap (λ b. (has_name init library || has_name init (functions_of (lowered_file source))) || (b || has_name init (signature result.Int (codes "main") [] ∷ []))) (same_name init)
+    ∙ or_true (has_name init library || has_name init (functions_of (lowered_file source)))
+
+helper_there : (source : Source) (operator : Operator) → there source (helper operator) ≡ true
+helper_there source Add = refl
+helper_there source Subtract = refl
+helper_there source Multiply = refl
+
+operation_there : (source : Source) (operator : Operator) (l r k : ℕ) → list_all (calls_only (there source)) (operation operator l r k) ≡ true
+operation_there source operator l r k = simp callings (ap (λ b. b && (there source (codes "lf_fit") && true)) (helper_there source operator))
+
+there_append : (source : Source) (xs ys : List CStmt) → list_all (calls_only (there source)) xs ≡ true → list_all (calls_only (there source)) ys ≡ true → list_all (calls_only (there source)) (xs ++ ys) ≡ true
+there_append source xs ys h k = list_all-append (calls_only (there source)) xs ys ∙ ap (λ b. b && list_all (calls_only (there source)) ys) h ∙ k
+
+lowered_there : (source : Source) (t : Tree) (behind : ℕ) → list_all (calls_only (there source)) (lowered t behind) ≡ true
+lowered_there source (Literal v) behind = simp callings refl
+lowered_there source (Binary operator l r) behind =
+    let m : ℕ = behind + count l in
+    let k : ℕ = m + count r in
+    there_append source (lowered l behind) (lowered r m ++ operation operator m k k) (lowered_there source l behind) (there_append source (lowered r m) (operation operator m k k) (lowered_there source r m) (operation_there source operator m k k))
+
+printed_there : (source : Source) (t : Tree) → list_all (calls_only (there source)) (printed t) ≡ true
+printed_there source t = there_append source (printing_begins ++ lowered t 0) (printing_ends (count t)) (there_append source printing_begins (lowered t 0) (simp callings refl) (lowered_there source t 0)) (simp callings refl)
+
+body_there : (source : Source) (init : List ℕ) (body : List CStmt) → there source init ≡ true → list_all (λ b. b) (map (calls_only (there source)) body) ≡ true → list_all (calls_only (there source)) (Call init [] ∷ Block body ∷ ReturnValue (Constant 0) ∷ []) ≡ true
+body_there source init body h k = simp (callings, h, k) refl
+
+items_there : (source : Source) (init : List ℕ) (body : List CStmt) → list_all (calls_only (there source)) body ≡ true → list_all (item_calls_only (there source)) (Prototype result.Void init [] ∷ Function false result.Void init [] (Return ∷ []) ∷ Function false result.Int (codes "main") [] body ∷ []) ≡ true
+items_there source init body h = simp (callings, h) refl
+
+defined_of : (source : Source) → list_all (item_calls_only (there source)) (lowered_file source).items ≡ true
+defined_of source =
+    let right = list_all-map (λ b. b) (calls_only (there source)) (printed source.value) ∙ printed_there source source.value in
+    let body = body_there source (init_name source.name) (printed source.value) (init_there source) right in
+    list_all-append (item_calls_only (there source)) prelude_items (lowered_items source)
+    ∙ ap (λ b. b && list_all (item_calls_only (there source)) (lowered_items source)) (prelude_calls source)
+    ∙ items_there source (init_name source.name) (main_body source) body
+
+agreed_of : (source : Source) → are_agreed (shown_in (lowered_file source ∷ [])) ≡ true
+agreed_of source = simp (same_name (init_name source.name)) refl
 
 pub linked : (source : Source) → count source.value < 2 ^ 70 → length source.name < 2 ^ 64 → IsProgram (lowered_file source ∷ [])
 linked source few short = record {
   right = ap (λ b. b && true) (file_linked source few short);
   once = ap (λ b. b && true) (once_of source short);
   external = refl;
+  agreed = agreed_of source;
   defined = ap (λ b. b && true) (defined_of source);
   main = refl;
 }

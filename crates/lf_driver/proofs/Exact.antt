@@ -2,7 +2,7 @@
 use Rattle.std.proofs.Common.{◌≡◌, ℕ, zero, suc, ◌-◌, ◌^◌, ◌<◌, Option, Some, ◌⊎◌, inl, inr, ⊎_elim, refl, sym, ap, subst, arith}
 use Rattle.lf_base.specs.Causes.{Rose}
 use Rattle.lf_base.specs.Files.{Files}
-use Rattle.lf_driver.specs.Answers.{Call, Quiet, Counting, AnswersUsage, AnswersAbsent, Answered, status_by, IsExact}
+use Rattle.lf_driver.specs.Answers.{Call, AnswersUsage, AnswersAbsent, Answered, status_by, IsExact}
 use Rattle.lf_driver.specs.Ends.{Told, Written}
 use Rattle.lf_driver.specs.Verdict.{verdict, of_command}
 use Rattle.lf_driver.specs.Verdict as judged

@@ -13,7 +13,7 @@ use Rattle.c_nodes.specs.declared.tree.CExpr.TheVariants.{Variable, Constant, Ad
 use Rattle.c_nodes.specs.declared.tree.CItem.TheVariants.{Prototype, Function}
 use Rattle.c_nodes.specs.declared.tree.CStmt.{CStmt}
 use Rattle.c_nodes.specs.declared.tree.CStmt.TheVariants.{DeclareCall, Call, Return, ReturnValue, Block}
-use Rattle.c_nodes.specs.Linking.{Typed, Object, Number, Leads, is_number, Entry, Scope, first_or, is_declared, type_of, ANumber, APointer, Signature, library, signature_of, address_of, given_by, call_gives, is_call, is_value, kept_if, Step, declared, initialized, on_scope, in_turn, is_right, step, signature, outermost, is_right_body, are_right, known_behind, is_right_file, functions_of, externals_of, has_name, are_distinct, shown_in, are_agreed, calls_only, item_calls_only, is_defined, IsProgram}
+use Rattle.c_nodes.specs.Linking.{Typed, Object, Number, Leads, is_number, Entry, Scope, first_or, is_declared, type_of, ANumber, APointer, Signature, library, signature_of, address_of, given_by, call_gives, is_call, is_value, kept_if, Step, declared, initialized, on_scope, in_turn, is_right, step, signature, outermost, is_right_body, are_right, known_behind, is_right_file, functions_of, has_name, are_distinct, shown_in, are_agreed, calls_only, item_calls_only, is_defined, IsProgram}
 use Rattle.c_nodes.specs.Prelude.{prelude_items}
 use Rattle.c_nodes.proofs.LinkingShapes.{links, callings, type_of-Variable, type_of-Constant, type_of-Address, step-DeclareValue, step-DeclareCall, step-Call, step-Return, step-ReturnValue, step-Block}
 use Rattle.c_nodes.proofs.LinkingPrelude.{prelude_right}

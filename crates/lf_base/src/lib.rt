@@ -9,6 +9,7 @@ mod mem_sink;
 mod mem_source;
 mod mem_store;
 mod name;
+pub mod operator;
 mod rule;
 mod sink;
 mod source;

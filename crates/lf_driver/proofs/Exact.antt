@@ -7,7 +7,7 @@ use Rattle.lf_driver.specs.Ends.{Told, Written}
 use Rattle.lf_driver.specs.Verdict.{verdict, of_command}
 use Rattle.lf_driver.specs.Verdict as judged
 
-told_at : (o : Option Files) (files : Files) (fact : Files → Type 0) → o ≡ Some files → Told o fact → fact files
+pub told_at : (o : Option Files) (files : Files) (fact : Files → Type 0) → o ≡ Some files → Told o fact → fact files
 told_at o files fact e h = subst (λ x. Told x fact) e h
 
 not_risen : (before now : ℕ) → before < 2 ^ 64 - 1 → now ≡ before → Rose before now → ⊥

@@ -18,7 +18,7 @@ pub fn lf_main<S: Store, I: Source, O: Sink, E: Sink>(
 ) -> u8
     ensures answered { Answered result (record { words = map string_bytes words.now; old = S.files store.old; new = S.files store.new; reads = S.read_faults store.old; reads' = S.read_faults store.new; writes = S.Sink.faults store.old; writes' = S.Sink.faults store.new; held = E.contents err.old; held' = E.contents err.new; faults = E.faults err.old; faults' = E.faults err.new }) }
     ensures exact { IsExact result (record { words = map string_bytes words.now; old = S.files store.old; new = S.files store.new; reads = S.read_faults store.old; reads' = S.read_faults store.new; writes = S.Sink.faults store.old; writes' = S.Sink.faults store.new; held = E.contents err.old; held' = E.contents err.new; faults = E.faults err.old; faults' = E.faults err.new }) }
-    ensures meaning { result ≡ 0 → KeepsMeaning (map string_bytes words.now) (S.files store.old) }
+    ensures meaning { KeepsMeaning result (record { words = map string_bytes words.now; old = S.files store.old; new = S.files store.new; reads = S.read_faults store.old; reads' = S.read_faults store.new; writes = S.Sink.faults store.old; writes' = S.Sink.faults store.new; held = E.contents err.old; held' = E.contents err.new; faults = E.faults err.old; faults' = E.faults err.new }) }
     ensures input { input.new ≡ input.old }
     ensures out { out.new ≡ out.old }
 {

@@ -10,4 +10,4 @@ pub returns-clause-exact : goal.returns-clause-exact
 returns-clause-exact g c = exact c.status.result _ (returns-clause-answered g c)
 
 pub returns-clause-meaning : goal.returns-clause-meaning
-returns-clause-meaning g c zero = keeps_meaning _ _
+returns-clause-meaning g c = keeps_meaning c.status.result _ (returns-clause-answered g c)

@@ -1,2 +1,10 @@
-pub mod Lines
-pub mod Places
+pub mod Cleaned
+pub mod Covered
+pub mod Drafts
+pub mod FirstLine
+pub mod Found
+pub mod Lexing
+pub mod LinesLie
+pub mod Paths
+pub mod Steps
+pub mod Tokens

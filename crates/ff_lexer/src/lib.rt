@@ -1,11 +1,15 @@
 //! The lexical form of a source: its statements, each with the tokens that it is made of.
-//!
-//! In this first form a statement is one line, and a line holds names, digits and the marks `+`, `-`, `*`
-//! and `,` alone.
 #![tactic(auto)]
 
-mod scan;
+mod bytes;
+pub mod law;
+mod lexeme;
+mod reader;
+mod span;
 mod token;
+mod unbroken;
 
-pub use scan::statements;
+pub use reader::statements;
+pub use span::{spelled, spelling};
 pub use token::{Kind, Stmt, Token};
+pub use unbroken::Spelled;

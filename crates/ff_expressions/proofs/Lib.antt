@@ -1,0 +1,5 @@
+pub mod Counting
+pub mod Gathering
+pub mod Keeping
+pub mod Matching
+pub mod Operands

@@ -1,0 +1,11 @@
+use Rattle.std.proofs.Common.{◌≡◌, length}
+use Rattle.ff_forms.specs.Answers.{all}
+use Rattle.ff_forms.specs.Names.{only_item}
+use Rattle.ff_forms.proofs.Lists.{behind}
+use Rattle.ff_forms.proofs.names.each_only.Given as goal
+
+abbrev pub invariant-loop-piece : goal.invariant-loop-piece
+invariant-loop-piece l = behind l.renames (all only_item l.pieces) ≡ all only_item l.fn.pieces
+
+abbrev pub decreases-loop-piece : goal.decreases-loop-piece
+decreases-loop-piece l = length l.pieces

@@ -1,0 +1,12 @@
+pub mod Actions
+pub mod Answers
+pub mod Constructs
+pub mod Declarations
+pub mod Forms
+pub mod Names
+pub mod Output
+pub mod Procedures
+pub mod Rows
+pub mod Shapes
+pub mod Types
+pub mod Words

@@ -1,0 +1,5 @@
+use Rattle.ff_parser.proofs.Laws.{one}
+use Rattle.ff_parser.proofs.law.one_file.Goals as goal
+
+pub returns : goal.returns
+returns c = one

@@ -40,7 +40,7 @@ module _ (b : ℕ) (small : b < 256) (s : State) (w : Written) where
 -- a function of the program is called and answers, or ends the program
 module _ (n : ℕ) (calls : Calls) (p : Procedure) (vs : List CValue) (frame : Frame) (s : State) (w : Written) (binds : bound_all p.parameters vs (Some no_names) ≡ Some frame) where
   abbrev inside : State
-  inside = record { here = frame; callers = s.here ∷ s.callers; input = s.input }
+  inside = record { here = frame; callers = s.here ∷ s.callers; around = s.around }
 
   pub call_going : (r : Option Flow) (t : State) (v : Written) → statements n calls p.body inside w ≡ Going r t v → call n calls p vs s w ≡ Going (returned p.result r) (left t) v
   call_going r t v h = rw binds (within_going (λ z. z) (λ before after. left after) (bind (statements n calls p.body) (λ flow. give (returned p.result flow))) inside w (returned p.result r) t v (bind_going (statements n calls p.body) (λ flow. give (returned p.result flow)) inside w r t v h))

@@ -4,15 +4,18 @@ use Rattle.lf_base.specs.declared.name.Name.{Name}
 use Rattle.c_nodes.specs.declared.tree.CType.{CType}
 use Rattle.c_nodes.specs.declared.tree.CBinary.{CBinary}
 use Rattle.c_nodes.specs.declared.tree.CExpr.{CExpr, CExpr-F}
-use Rattle.c_nodes.specs.declared.tree.CExpr.TheVariants.{Variable, Index, Constant, Greatest, Least, Paren, Negate, Not, Binary, Cast, ToInt, Address, Literal}
+use Rattle.c_nodes.specs.declared.tree.CExpr.TheVariants.{Variable, Index, Member, Constant, Greatest, Least, Paren, Negate, Not, Binary, Cast, ToInt, Address, Literal}
 use Rattle.c_nodes.specs.CMeaning.{Reading, reading, reading_layer}
-use Rattle.c_nodes.proofs.ExprInduction.{fold-Variable, fold-Index, fold-Constant, fold-Greatest, fold-Least, fold-Paren, fold-Negate, fold-Not, fold-Binary, fold-Cast, fold-ToInt, fold-Address, fold-Literal}
+use Rattle.c_nodes.proofs.ExprInduction.{fold-Variable, fold-Index, fold-Member, fold-Constant, fold-Greatest, fold-Least, fold-Paren, fold-Negate, fold-Not, fold-Binary, fold-Cast, fold-ToInt, fold-Address, fold-Literal}
 
 pub reads_variable : (name : Name) → reading (Variable name) ≡ reading_layer (CExpr-F.Variable name)
 reads_variable name = fold-Variable Reading reading_layer name
 
 pub reads_index : (base subscript : CExpr) → reading (Index base subscript) ≡ reading_layer (CExpr-F.Index (reading base) (reading subscript))
 reads_index base subscript = fold-Index Reading reading_layer base subscript
+
+pub reads_member : (base : CExpr) (name : Name) → reading (Member base name) ≡ reading_layer (CExpr-F.Member (reading base) name)
+reads_member base name = fold-Member Reading reading_layer base name
 
 pub reads_constant : (n : ℕ) → reading (Constant n) ≡ reading_layer (CExpr-F.Constant n)
 reads_constant n = fold-Constant Reading reading_layer n
@@ -47,4 +50,4 @@ reads_address place = fold-Address Reading reading_layer place
 pub reads_literal : (bytes : List ℕ) → reading (Literal bytes) ≡ reading_layer (CExpr-F.Literal bytes)
 reads_literal bytes = fold-Literal Reading reading_layer bytes
 
-pub ruleset exprs = (reads_variable, reads_index, reads_constant, reads_greatest, reads_least, reads_paren, reads_negate, reads_not, reads_binary, reads_cast, reads_to_int, reads_address, reads_literal)
+pub ruleset exprs = (reads_variable, reads_index, reads_member, reads_constant, reads_greatest, reads_least, reads_paren, reads_negate, reads_not, reads_binary, reads_cast, reads_to_int, reads_address, reads_literal)

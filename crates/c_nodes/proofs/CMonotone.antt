@@ -1,5 +1,5 @@
 -- Larger bounds keep the end of a C program, and never shorten what it writes.
-use Rattle.std.proofs.Common.{◌≡◌, ℕ, zero, suc, ◌≤◌, Bool, true, false, List, [], ◌∷◌, map, Option, Some, None, codes, cond, sym, subst, arith}
+use Rattle.std.proofs.Common.{◌≡◌, ℕ, zero, suc, ◌≤◌, Bool, true, false, List, [], ◌∷◌, map, Option, Some, None, codes, cond, refl, sym, subst, ap, ◌∙◌, arith}
 use Rattle.std.specs.Str.{bytes_eq}
 use Rattle.std.specs.List.{AllByRecursion}
 use Rattle.std.proofs.Math.IntN.{ℤ}
@@ -11,13 +11,16 @@ use Rattle.lf_base.specs.Near.{IsMonotone}
 use Rattle.lf_base.specs.Monotone.{NoShorter}
 use Rattle.lf_base.proofs.Stretches.{grows_bind, grows_give, grows_look, grows_change, grows_print, grows_complain, grows_stop, grows_cut, grows_wrong, grows_given, grows_order, grows_within, grows_iterate}
 use Rattle.lf_base.proofs.Monotone.{same_self, bind_no_shorter, iterate_no_shorter, order_no_shorter, within_no_shorter, outcomes_monotone}
+use Rattle.c_nodes.specs.declared.tree.CType.{CType}
 use Rattle.c_nodes.specs.declared.tree.CExpr.{CExpr}
 use Rattle.c_nodes.specs.declared.tree.CStmt.{CStmt}
 use Rattle.c_nodes.specs.declared.tree.CFile.{CFile}
-use Rattle.c_nodes.specs.CValues.{CValue, Number, Pointer, Errors, to_int}
-use Rattle.c_nodes.specs.CState.{Slot, Leads, State, no_names, declare, closed}
-use Rattle.c_nodes.specs.CMeaning.{reading, Designated, value_of, place_of, all_given, arguments_of, stored_in, store, become, Flow, Returned, Doing, Calls, then_next, fresh, newest, initialize, room, answer, answered, tested, holds, choose, block, statement_layer, statement, statements, Procedure, call, left, entered, bound_all, returned, on_int, put_out, put_error, get_byte, leave, library_or, on_procedure, calls_of, function_of, run_main, main_of, begin, CMeaning, status_of, byte_of, written_byte, next_byte, without_first}
-use Rattle.c_nodes.proofs.StmtInduction.{by_cases, fold-Declare, fold-DeclareArray, fold-DeclareValue, fold-DeclarePointer, fold-DeclareCall, fold-Assign, fold-AssignCall, fold-Call, fold-Return, fold-ReturnValue, fold-ReturnCall, fold-Block, fold-While, fold-If, fold-IfElse}
+use Rattle.c_nodes.specs.CValues.{CValue, Number, Pointer, Errors, Structure, to_int}
+use Rattle.c_nodes.specs.CState.{Leads, State, no_names, declare, closed}
+use Rattle.c_nodes.specs.CMeaning.{reading, Designated, value_of, place_of, all_given, arguments_of, stored_in, store, become, Flow, Returned, Jumped, Doing, Clause, Calls, then_next, newest, initialize, room, begin_object, begin_array, answer, answered, tested, holds, choose, landed, last_label, block, clause, statement, statements, Procedure, call, left, entered, bound_all, returned, on_int, put_out, put_error, get_byte, leave, library_or, on_procedure, calls_of, function_of, run_main, main_of, begin, CMeaning, status_of, byte_of, written_byte, next_byte, without_first}
+use Rattle.c_nodes.proofs.StmtInduction.{by_cases}
+use Rattle.c_nodes.proofs.CRuns.{all_do}
+use Rattle.c_nodes.proofs.CStmts.{does-Declare, does-DeclareArray, does-DeclareValue, does-DeclarePointer, does-DeclareCall, does-Assign, does-AssignCall, does-Call, does-Return, does-ReturnValue, does-ReturnCall, does-Goto, does-Label, does-Block, does-While, does-If, does-IfElse, clause-Declare, clause-DeclareArray, clause-DeclareValue, clause-DeclarePointer, clause-DeclareCall, clause-Assign, clause-AssignCall, clause-Call, clause-Return, clause-ReturnValue, clause-ReturnCall, clause-Goto, clause-Label, clause-Block, clause-While, clause-If, clause-IfElse}
 
 abbrev U : Type 0
 U = Unit {0}
@@ -62,16 +65,25 @@ choose_grows : (a b : Doing) → G a → G b → (t : Bool) → G (choose a b t)
 choose_grows a b g h true = g
 choose_grows a b g h false = h
 
-block_grows : (body : List Doing) → AllByRecursion G body → G (block body)
-block_grows body h = grows_within U (λ s. s) closed (in_order body) (grows_order U body h)
-
-all_map : (P : Doing → Type 0) (f : CStmt → Doing) (body : List CStmt) → AllByRecursion (λ s. P (f s)) body → AllByRecursion P (map f body)
+all_map : {A B : Type 0} (P : B → Type 0) (f : A → B) (body : List A) → AllByRecursion (λ s. P (f s)) body → AllByRecursion P (map f body)
 all_map P f [] h = tt
 all_map P f (s ∷ body) h = (h.0, all_map P f body h.1)
 
+block_grows : (body : List Clause) → AllByRecursion (λ c. G c.does) body → G (block body)
+block_grows body h =
+    grows_bind U (within (λ s. s) closed (in_order (map (λ c. c.does) body))) (λ flow. give (landed (last_label body) flow))
+    (grows_within U (λ s. s) closed (in_order (map (λ c. c.does) body)) (grows_order U (map (λ c. c.does) body) (all_map G (λ c. c.does) body h)))
+    (λ flow. grows_give U (landed (last_label body) flow))
+
 -- a declaration, and then its value
-declared_grows : (name : Name) (slot : Slot) (act : Act State CValue) → G act → G (then_next (bind (change (declare name slot)) (λ u. bind act initialize)))
-declared_grows name slot act h = next_grows (bind (change (declare name slot)) (λ u. bind act initialize)) (grows_bind U (change (declare name slot)) (λ u. bind act initialize) (grows_change U (declare name slot)) (λ u. grows_bind U act initialize h initialize_grows))
+declared_grows : (begins : State → State) (act : Act State CValue) → G act → G (then_next (bind (change begins) (λ u. bind act initialize)))
+declared_grows begins act h = next_grows (bind (change begins) (λ u. bind act initialize)) (grows_bind U (change begins) (λ u. bind act initialize) (grows_change U begins) (λ u. grows_bind U act initialize h initialize_grows))
+
+array_grows : (kind : CType) (name : Name) (v : CValue) → G (begin_array kind name v)
+array_grows kind name v =
+    grows_bind U (bind (look (room kind v)) (given Undefined)) (λ slot. change (declare name slot))
+    (grows_bind U (look (room kind v)) (given Undefined) (grows_look U (room kind v)) given_grows)
+    (λ slot. grows_change U (declare name slot))
 
 assigned_grows : (target : CExpr) (act : Act State CValue) → G act → G (then_next (bind act (λ v. bind (place_of target) (λ p. store p v))))
 assigned_grows target act h = next_grows (bind act (λ v. bind (place_of target) (λ p. store p v))) (grows_bind U act (λ v. bind (place_of target) (λ p. store p v)) h (λ v. grows_bind U (place_of target) (λ p. store p v) (place_grows target) (λ p. store_grows p v)))
@@ -79,21 +91,23 @@ assigned_grows target act h = next_grows (bind act (λ v. bind (place_of target)
 module _ (n : ℕ) (calls : Calls) (g : CallsGrow calls) where
   pub statement_grows : (s : CStmt) → G (statement n calls s)
   statement_grows = by_cases (λ s. G (statement n calls s)) (record {
-    declare = λ kind name. subst G (sym (fold-Declare Doing (statement_layer n calls) kind name)) (next_grows (change (declare name (fresh kind))) (grows_change U (declare name (fresh kind))));
-    declare_array = λ kind name size. subst G (sym (fold-DeclareArray Doing (statement_layer n calls) kind name size)) (next_grows (bind (value_of size) (λ v. bind (given Undefined (room kind v)) (λ slot. change (declare name slot)))) (grows_bind U (value_of size) (λ v. bind (given Undefined (room kind v)) (λ slot. change (declare name slot))) (value_grows size) (λ v. grows_bind U (given Undefined (room kind v)) (λ slot. change (declare name slot)) (given_grows (room kind v)) (λ slot. grows_change U (declare name slot)))));
-    declare_value = λ kind name value. subst G (sym (fold-DeclareValue Doing (statement_layer n calls) kind name value)) (declared_grows name (fresh kind) (value_of value) (value_grows value));
-    declare_pointer = λ kind name value. subst G (sym (fold-DeclarePointer Doing (statement_layer n calls) kind name value)) (declared_grows name (Leads None) (value_of value) (value_grows value));
-    declare_call = λ kind name callee es. subst G (sym (fold-DeclareCall Doing (statement_layer n calls) kind name callee es)) (declared_grows name (fresh kind) (answered calls callee es) (answered_grows calls g callee es));
-    assign = λ target value. subst G (sym (fold-Assign Doing (statement_layer n calls) target value)) (assigned_grows target (value_of value) (value_grows value));
-    assign_call = λ target callee es. subst G (sym (fold-AssignCall Doing (statement_layer n calls) target callee es)) (assigned_grows target (answered calls callee es) (answered_grows calls g callee es));
-    call = λ callee es. subst G (sym (fold-Call Doing (statement_layer n calls) callee es)) (grows_bind U (answer calls callee es) (λ v. give None) (answer_grows calls g callee es) (λ v. grows_give {A = Option Flow} U None));
-    return = subst G (sym (fold-Return Doing (statement_layer n calls))) (grows_give {A = Option Flow} U (Some (Returned None)));
-    return_value = λ value. subst G (sym (fold-ReturnValue Doing (statement_layer n calls) value)) (grows_bind U (value_of value) (λ v. give (Some (Returned (Some v)))) (value_grows value) (λ v. grows_give {A = Option Flow} U (Some (Returned (Some v)))));
-    return_call = λ callee es. subst G (sym (fold-ReturnCall Doing (statement_layer n calls) callee es)) (grows_bind U (answered calls callee es) (λ v. give (Some (Returned (Some v)))) (answered_grows calls g callee es) (λ v. grows_give {A = Option Flow} U (Some (Returned (Some v)))));
-    block = λ body h. subst G (sym (fold-Block Doing (statement_layer n calls) body)) (block_grows (map (statement n calls) body) (all_map G (statement n calls) body h));
-    while = λ test body h. subst G (sym (fold-While Doing (statement_layer n calls) test body)) (grows_iterate U n (tested test) (block (map (statement n calls) body)) (tested_grows test) (block_grows (map (statement n calls) body) (all_map G (statement n calls) body h)));
-    «if» = λ test body h. subst G (sym (fold-If Doing (statement_layer n calls) test body)) (grows_bind U (tested test) (choose (block (map (statement n calls) body)) (give None)) (tested_grows test) (choose_grows (block (map (statement n calls) body)) (give None) (block_grows (map (statement n calls) body) (all_map G (statement n calls) body h)) (grows_give {A = Option Flow} U None)));
-    if_else = λ test body other h k. subst G (sym (fold-IfElse Doing (statement_layer n calls) test body other)) (grows_bind U (tested test) (choose (block (map (statement n calls) body)) (block (map (statement n calls) other))) (tested_grows test) (choose_grows (block (map (statement n calls) body)) (block (map (statement n calls) other)) (block_grows (map (statement n calls) body) (all_map G (statement n calls) body h)) (block_grows (map (statement n calls) other) (all_map G (statement n calls) other k))));
+    declare = λ kind name. subst G (sym (does-Declare n calls kind name)) (next_grows (change (begin_object kind name)) (grows_change U (begin_object kind name)));
+    declare_array = λ kind name size. subst G (sym (does-DeclareArray n calls kind name size)) (next_grows (bind (value_of size) (begin_array kind name)) (grows_bind U (value_of size) (begin_array kind name) (value_grows size) (array_grows kind name)));
+    declare_value = λ kind name value. subst G (sym (does-DeclareValue n calls kind name value)) (declared_grows (begin_object kind name) (value_of value) (value_grows value));
+    declare_pointer = λ kind name value. subst G (sym (does-DeclarePointer n calls kind name value)) (declared_grows (declare name (Leads None)) (value_of value) (value_grows value));
+    declare_call = λ kind name callee es. subst G (sym (does-DeclareCall n calls kind name callee es)) (declared_grows (begin_object kind name) (answered calls callee es) (answered_grows calls g callee es));
+    assign = λ target value. subst G (sym (does-Assign n calls target value)) (assigned_grows target (value_of value) (value_grows value));
+    assign_call = λ target callee es. subst G (sym (does-AssignCall n calls target callee es)) (assigned_grows target (answered calls callee es) (answered_grows calls g callee es));
+    call = λ callee es. subst G (sym (does-Call n calls callee es)) (grows_bind U (answer calls callee es) (λ v. give None) (answer_grows calls g callee es) (λ v. grows_give {A = Option Flow} U None));
+    return = subst G (sym (does-Return n calls)) (grows_give {A = Option Flow} U (Some (Returned None)));
+    return_value = λ value. subst G (sym (does-ReturnValue n calls value)) (grows_bind U (value_of value) (λ v. give (Some (Returned (Some v)))) (value_grows value) (λ v. grows_give {A = Option Flow} U (Some (Returned (Some v)))));
+    return_call = λ callee es. subst G (sym (does-ReturnCall n calls callee es)) (grows_bind U (answered calls callee es) (λ v. give (Some (Returned (Some v)))) (answered_grows calls g callee es) (λ v. grows_give {A = Option Flow} U (Some (Returned (Some v)))));
+    goto = λ label. subst G (sym (does-Goto n calls label)) (grows_give {A = Option Flow} U (Some (Jumped label)));
+    label = λ name. subst G (sym (does-Label n calls name)) (grows_give {A = Option Flow} U None);
+    block = λ body h. subst G (sym (does-Block n calls body)) (block_grows (map (clause n calls) body) (all_map (λ c. G c.does) (clause n calls) body h));
+    while = λ test body h. subst G (sym (does-While n calls test body)) (grows_iterate U n (tested test) (block (map (clause n calls) body)) (tested_grows test) (block_grows (map (clause n calls) body) (all_map (λ c. G c.does) (clause n calls) body h)));
+    «if» = λ test body h. subst G (sym (does-If n calls test body)) (grows_bind U (tested test) (choose (block (map (clause n calls) body)) (give None)) (tested_grows test) (choose_grows (block (map (clause n calls) body)) (give None) (block_grows (map (clause n calls) body) (all_map (λ c. G c.does) (clause n calls) body h)) (grows_give {A = Option Flow} U None)));
+    if_else = λ test body other h k. subst G (sym (does-IfElse n calls test body other)) (grows_bind U (tested test) (choose (block (map (clause n calls) body)) (block (map (clause n calls) other))) (tested_grows test) (choose_grows (block (map (clause n calls) body)) (block (map (clause n calls) other)) (block_grows (map (clause n calls) body) (all_map (λ c. G c.does) (clause n calls) body h)) (block_grows (map (clause n calls) other) (all_map (λ c. G c.does) (clause n calls) other k))));
   })
 
   all_grow : (body : List CStmt) → AllByRecursion (λ s. G (statement n calls s)) body
@@ -131,9 +145,10 @@ put_error_grows (v ∷ Errors ∷ []) = on_int_grows (to_int (Some v)) (λ z. bi
 put_error_grows (v ∷ Errors ∷ x ∷ vs) = grows_wrong State (Option CValue) U tt Undefined
 put_error_grows (v ∷ Number w z ∷ vs) = grows_wrong State (Option CValue) U tt Undefined
 put_error_grows (v ∷ Pointer b o ∷ vs) = grows_wrong State (Option CValue) U tt Undefined
+put_error_grows (v ∷ Structure tag cells ∷ vs) = grows_wrong State (Option CValue) U tt Undefined
 
 get_byte_grows : (vs : List CValue) → G (get_byte vs)
-get_byte_grows [] = grows_bind U (look (λ s. next_byte s.input)) (λ v. bind (change without_first) (λ u. give v)) (grows_look U (λ s. next_byte s.input)) (λ v. grows_bind U (change without_first) (λ u. give v) (grows_change U without_first) (λ u. grows_give U v))
+get_byte_grows [] = grows_bind U (look (λ s. next_byte s.around.input)) (λ v. bind (change without_first) (λ u. give v)) (grows_look U (λ s. next_byte s.around.input)) (λ v. grows_bind U (change without_first) (λ u. give v) (grows_change U without_first) (λ u. grows_give U v))
 get_byte_grows (v ∷ vs) = grows_wrong State (Option CValue) U tt Undefined
 
 leave_grows : (vs : List CValue) → G (leave vs)
@@ -173,10 +188,10 @@ choose_longer a b a' b' g h false = h
 after_longer : {A B : Type 0} (act act' : Act State A) (go : A → Act State B) → M act act' → ((a : A) → G (go a)) → M (bind act go) (bind act' go)
 after_longer act act' go h g = bind_no_shorter act act' go go h (λ a. same_self (go a)) g
 
-declared_longer : (name : Name) (slot : Slot) (act act' : Act State CValue) → M act act' → G act' → M (then_next (bind (change (declare name slot)) (λ u. bind act initialize))) (then_next (bind (change (declare name slot)) (λ u. bind act' initialize)))
-declared_longer name slot act act' h g =
-    after_longer (bind (change (declare name slot)) (λ u. bind act initialize)) (bind (change (declare name slot)) (λ u. bind act' initialize)) (λ u. give None)
-    (bind_no_shorter (change (declare name slot)) (change (declare name slot)) (λ u. bind act initialize) (λ u. bind act' initialize) (same_self (change (declare name slot))) (λ u. after_longer act act' initialize h initialize_grows) (λ u. grows_bind U act' initialize g initialize_grows))
+declared_longer : (begins : State → State) (act act' : Act State CValue) → M act act' → G act' → M (then_next (bind (change begins) (λ u. bind act initialize))) (then_next (bind (change begins) (λ u. bind act' initialize)))
+declared_longer begins act act' h g =
+    after_longer (bind (change begins) (λ u. bind act initialize)) (bind (change begins) (λ u. bind act' initialize)) (λ u. give None)
+    (bind_no_shorter (change begins) (change begins) (λ u. bind act initialize) (λ u. bind act' initialize) (same_self (change begins)) (λ u. after_longer act act' initialize h initialize_grows) (λ u. grows_bind U act' initialize g initialize_grows))
     (λ u. grows_give {A = Option Flow} U None)
 
 assigned_longer : (target : CExpr) (act act' : Act State CValue) → M act act' → M (then_next (bind act (λ v. bind (place_of target) (λ p. store p v)))) (then_next (bind act' (λ v. bind (place_of target) (λ p. store p v))))
@@ -196,11 +211,46 @@ module _ (n n' : ℕ) (le : n ≤ n') (calls calls' : Calls) (longer : CallsLong
   both [] h = tt
   both (s ∷ body) h = ((h.0, statement_grows n' calls' g s), both body h.1)
 
-  blocks : (body : List CStmt) → AllByRecursion Holds body → M (block (map (statement n calls) body)) (block (map (statement n' calls') body))
-  blocks body h = within_no_shorter (λ s. s) closed (in_order (map (statement n calls) body)) (in_order (map (statement n' calls') body)) (order_no_shorter (statement n calls) (statement n' calls') body (both body h))
+  -- a label is one at any bounds
+  label_same : (s : CStmt) → (clause n calls s).label ≡ (clause n' calls' s).label
+  label_same = by_cases (λ s. (clause n calls s).label ≡ (clause n' calls' s).label) (record {
+    declare = λ kind name. ap (λ c. c.label) (clause-Declare n calls kind name) ∙ sym (ap (λ c. c.label) (clause-Declare n' calls' kind name));
+    declare_array = λ kind name size. ap (λ c. c.label) (clause-DeclareArray n calls kind name size) ∙ sym (ap (λ c. c.label) (clause-DeclareArray n' calls' kind name size));
+    declare_value = λ kind name value. ap (λ c. c.label) (clause-DeclareValue n calls kind name value) ∙ sym (ap (λ c. c.label) (clause-DeclareValue n' calls' kind name value));
+    declare_pointer = λ kind name value. ap (λ c. c.label) (clause-DeclarePointer n calls kind name value) ∙ sym (ap (λ c. c.label) (clause-DeclarePointer n' calls' kind name value));
+    declare_call = λ kind name callee arguments. ap (λ c. c.label) (clause-DeclareCall n calls kind name callee arguments) ∙ sym (ap (λ c. c.label) (clause-DeclareCall n' calls' kind name callee arguments));
+    assign = λ target value. ap (λ c. c.label) (clause-Assign n calls target value) ∙ sym (ap (λ c. c.label) (clause-Assign n' calls' target value));
+    assign_call = λ target callee arguments. ap (λ c. c.label) (clause-AssignCall n calls target callee arguments) ∙ sym (ap (λ c. c.label) (clause-AssignCall n' calls' target callee arguments));
+    call = λ callee arguments. ap (λ c. c.label) (clause-Call n calls callee arguments) ∙ sym (ap (λ c. c.label) (clause-Call n' calls' callee arguments));
+    return = ap (λ c. c.label) (clause-Return n calls) ∙ sym (ap (λ c. c.label) (clause-Return n' calls'));
+    return_value = λ value. ap (λ c. c.label) (clause-ReturnValue n calls value) ∙ sym (ap (λ c. c.label) (clause-ReturnValue n' calls' value));
+    return_call = λ callee arguments. ap (λ c. c.label) (clause-ReturnCall n calls callee arguments) ∙ sym (ap (λ c. c.label) (clause-ReturnCall n' calls' callee arguments));
+    goto = λ label. ap (λ c. c.label) (clause-Goto n calls label) ∙ sym (ap (λ c. c.label) (clause-Goto n' calls' label));
+    label = λ name. ap (λ c. c.label) (clause-Label n calls name) ∙ sym (ap (λ c. c.label) (clause-Label n' calls' name));
+    block = λ body h. ap (λ c. c.label) (clause-Block n calls body) ∙ sym (ap (λ c. c.label) (clause-Block n' calls' body));
+    while = λ test body h. ap (λ c. c.label) (clause-While n calls test body) ∙ sym (ap (λ c. c.label) (clause-While n' calls' test body));
+    «if» = λ test body h. ap (λ c. c.label) (clause-If n calls test body) ∙ sym (ap (λ c. c.label) (clause-If n' calls' test body));
+    if_else = λ test body other h k. ap (λ c. c.label) (clause-IfElse n calls test body other) ∙ sym (ap (λ c. c.label) (clause-IfElse n' calls' test body other));
+  })
 
-  blocks_grow : (body : List CStmt) → G (block (map (statement n' calls') body))
-  blocks_grow body = block_grows (map (statement n' calls') body) (all_map G (statement n' calls') body (all_grow n' calls' g body))
+  labels_same : (body : List CStmt) → last_label (map (clause n calls) body) ≡ last_label (map (clause n' calls') body)
+  labels_same [] = refl
+  labels_same (s ∷ []) = label_same s
+  labels_same (s ∷ t ∷ body) = labels_same (t ∷ body)
+
+  abbrev ended : Option (List ℕ) → List Doing → Doing
+  ended label acts = bind (within (λ s. s) closed (in_order acts)) (λ flow. give (landed label flow))
+
+  blocks : (body : List CStmt) → AllByRecursion Holds body → M (block (map (clause n calls) body)) (block (map (clause n' calls') body))
+  blocks body h =
+      let label : Option (List ℕ) = last_label (map (clause n' calls') body) in
+      at_kind _ _ (ended label (map (statement n calls) body)) (ended label (map (statement n' calls') body))
+      (ap (λ l. ended (last_label (map (clause n calls) body)) l) (all_do n calls body) ∙ ap (λ o. ended o (map (statement n calls) body)) (labels_same body))
+      (ap (λ l. ended label l) (all_do n' calls' body))
+      (after_longer (within (λ s. s) closed (in_order (map (statement n calls) body))) (within (λ s. s) closed (in_order (map (statement n' calls') body))) (λ flow. give (landed label flow)) (within_no_shorter (λ s. s) closed (in_order (map (statement n calls) body)) (in_order (map (statement n' calls') body)) (order_no_shorter (statement n calls) (statement n' calls') body (both body h))) (λ flow. grows_give U (landed label flow)))
+
+  blocks_grow : (body : List CStmt) → G (block (map (clause n' calls') body))
+  blocks_grow body = block_grows (map (clause n' calls') body) (all_map (λ c. G c.does) (clause n' calls') body (all_grow n' calls' g body))
 
   abbrev lower : CStmt → Doing
   lower = statement n calls
@@ -210,21 +260,23 @@ module _ (n n' : ℕ) (le : n ≤ n') (calls calls' : Calls) (longer : CallsLong
 
   pub statement_longer : (s : CStmt) → Holds s
   statement_longer = by_cases Holds (record {
-    declare = λ kind name. same_kind _ _ (fold-Declare Doing (statement_layer n calls) kind name) (fold-Declare Doing (statement_layer n' calls') kind name);
-    declare_array = λ kind name size. same_kind _ _ (fold-DeclareArray Doing (statement_layer n calls) kind name size) (fold-DeclareArray Doing (statement_layer n' calls') kind name size);
-    declare_value = λ kind name value. same_kind _ _ (fold-DeclareValue Doing (statement_layer n calls) kind name value) (fold-DeclareValue Doing (statement_layer n' calls') kind name value);
-    declare_pointer = λ kind name value. same_kind _ _ (fold-DeclarePointer Doing (statement_layer n calls) kind name value) (fold-DeclarePointer Doing (statement_layer n' calls') kind name value);
-    declare_call = λ kind name callee es. at_kind _ _ _ _ (fold-DeclareCall Doing (statement_layer n calls) kind name callee es) (fold-DeclareCall Doing (statement_layer n' calls') kind name callee es) (declared_longer name (fresh kind) (answered calls callee es) (answered calls' callee es) (answered_longer calls calls' longer g callee es) (answered_grows calls' g callee es));
-    assign = λ target value. same_kind _ _ (fold-Assign Doing (statement_layer n calls) target value) (fold-Assign Doing (statement_layer n' calls') target value);
-    assign_call = λ target callee es. at_kind _ _ _ _ (fold-AssignCall Doing (statement_layer n calls) target callee es) (fold-AssignCall Doing (statement_layer n' calls') target callee es) (assigned_longer target (answered calls callee es) (answered calls' callee es) (answered_longer calls calls' longer g callee es));
-    call = λ callee es. at_kind _ _ _ _ (fold-Call Doing (statement_layer n calls) callee es) (fold-Call Doing (statement_layer n' calls') callee es) (after_longer (answer calls callee es) (answer calls' callee es) (λ v. give None) (answer_longer calls calls' longer g callee es) (λ v. grows_give {A = Option Flow} U None));
-    return = same_kind _ _ (fold-Return Doing (statement_layer n calls)) (fold-Return Doing (statement_layer n' calls'));
-    return_value = λ value. same_kind _ _ (fold-ReturnValue Doing (statement_layer n calls) value) (fold-ReturnValue Doing (statement_layer n' calls') value);
-    return_call = λ callee es. at_kind _ _ _ _ (fold-ReturnCall Doing (statement_layer n calls) callee es) (fold-ReturnCall Doing (statement_layer n' calls') callee es) (after_longer (answered calls callee es) (answered calls' callee es) (λ v. give (Some (Returned (Some v)))) (answered_longer calls calls' longer g callee es) (λ v. grows_give {A = Option Flow} U (Some (Returned (Some v)))));
-    block = λ body h. at_kind _ _ _ _ (fold-Block Doing (statement_layer n calls) body) (fold-Block Doing (statement_layer n' calls') body) (blocks body h);
-    while = λ test body h. at_kind _ _ _ _ (fold-While Doing (statement_layer n calls) test body) (fold-While Doing (statement_layer n' calls') test body) (iterate_no_shorter n n' le (tested test) (tested test) (block (map (statement n calls) body)) (block (map (statement n' calls') body)) (same_self (tested test)) (blocks body h) (tested_grows test) (blocks_grow body));
-    «if» = λ test body h. at_kind _ _ _ _ (fold-If Doing (statement_layer n calls) test body) (fold-If Doing (statement_layer n' calls') test body) (bind_no_shorter (tested test) (tested test) (choose (block (map (statement n calls) body)) (give None)) (choose (block (map (statement n' calls') body)) (give None)) (same_self (tested test)) (choose_longer (block (map (statement n calls) body)) (give None) (block (map (statement n' calls') body)) (give None) (blocks body h) (same_self (give None))) (choose_grows (block (map (statement n' calls') body)) (give None) (blocks_grow body) (grows_give {A = Option Flow} U None)));
-    if_else = λ test body other h k. at_kind _ _ _ _ (fold-IfElse Doing (statement_layer n calls) test body other) (fold-IfElse Doing (statement_layer n' calls') test body other) (bind_no_shorter (tested test) (tested test) (choose (block (map (statement n calls) body)) (block (map (statement n calls) other))) (choose (block (map (statement n' calls') body)) (block (map (statement n' calls') other))) (same_self (tested test)) (choose_longer (block (map (statement n calls) body)) (block (map (statement n calls) other)) (block (map (statement n' calls') body)) (block (map (statement n' calls') other)) (blocks body h) (blocks other k)) (choose_grows (block (map (statement n' calls') body)) (block (map (statement n' calls') other)) (blocks_grow body) (blocks_grow other)));
+    declare = λ kind name. same_kind _ _ (does-Declare n calls kind name) (does-Declare n' calls' kind name);
+    declare_array = λ kind name size. same_kind _ _ (does-DeclareArray n calls kind name size) (does-DeclareArray n' calls' kind name size);
+    declare_value = λ kind name value. same_kind _ _ (does-DeclareValue n calls kind name value) (does-DeclareValue n' calls' kind name value);
+    declare_pointer = λ kind name value. same_kind _ _ (does-DeclarePointer n calls kind name value) (does-DeclarePointer n' calls' kind name value);
+    declare_call = λ kind name callee es. at_kind _ _ _ _ (does-DeclareCall n calls kind name callee es) (does-DeclareCall n' calls' kind name callee es) (declared_longer (begin_object kind name) (answered calls callee es) (answered calls' callee es) (answered_longer calls calls' longer g callee es) (answered_grows calls' g callee es));
+    assign = λ target value. same_kind _ _ (does-Assign n calls target value) (does-Assign n' calls' target value);
+    assign_call = λ target callee es. at_kind _ _ _ _ (does-AssignCall n calls target callee es) (does-AssignCall n' calls' target callee es) (assigned_longer target (answered calls callee es) (answered calls' callee es) (answered_longer calls calls' longer g callee es));
+    call = λ callee es. at_kind _ _ _ _ (does-Call n calls callee es) (does-Call n' calls' callee es) (after_longer (answer calls callee es) (answer calls' callee es) (λ v. give None) (answer_longer calls calls' longer g callee es) (λ v. grows_give {A = Option Flow} U None));
+    return = same_kind _ _ (does-Return n calls) (does-Return n' calls');
+    return_value = λ value. same_kind _ _ (does-ReturnValue n calls value) (does-ReturnValue n' calls' value);
+    return_call = λ callee es. at_kind _ _ _ _ (does-ReturnCall n calls callee es) (does-ReturnCall n' calls' callee es) (after_longer (answered calls callee es) (answered calls' callee es) (λ v. give (Some (Returned (Some v)))) (answered_longer calls calls' longer g callee es) (λ v. grows_give {A = Option Flow} U (Some (Returned (Some v)))));
+    goto = λ label. same_kind _ _ (does-Goto n calls label) (does-Goto n' calls' label);
+    label = λ name. same_kind _ _ (does-Label n calls name) (does-Label n' calls' name);
+    block = λ body h. at_kind _ _ _ _ (does-Block n calls body) (does-Block n' calls' body) (blocks body h);
+    while = λ test body h. at_kind _ _ _ _ (does-While n calls test body) (does-While n' calls' test body) (iterate_no_shorter n n' le (tested test) (tested test) (block (map (clause n calls) body)) (block (map (clause n' calls') body)) (same_self (tested test)) (blocks body h) (tested_grows test) (blocks_grow body));
+    «if» = λ test body h. at_kind _ _ _ _ (does-If n calls test body) (does-If n' calls' test body) (bind_no_shorter (tested test) (tested test) (choose (block (map (clause n calls) body)) (give None)) (choose (block (map (clause n' calls') body)) (give None)) (same_self (tested test)) (choose_longer (block (map (clause n calls) body)) (give None) (block (map (clause n' calls') body)) (give None) (blocks body h) (same_self (give None))) (choose_grows (block (map (clause n' calls') body)) (give None) (blocks_grow body) (grows_give {A = Option Flow} U None)));
+    if_else = λ test body other h k. at_kind _ _ _ _ (does-IfElse n calls test body other) (does-IfElse n' calls' test body other) (bind_no_shorter (tested test) (tested test) (choose (block (map (clause n calls) body)) (block (map (clause n calls) other))) (choose (block (map (clause n' calls') body)) (block (map (clause n' calls') other))) (same_self (tested test)) (choose_longer (block (map (clause n calls) body)) (block (map (clause n calls) other)) (block (map (clause n' calls') body)) (block (map (clause n' calls') other)) (blocks body h) (blocks other k)) (choose_grows (block (map (clause n' calls') body)) (block (map (clause n' calls') other)) (blocks_grow body) (blocks_grow other)));
   })
 
   all_longer : (body : List CStmt) → AllByRecursion Holds body
@@ -274,4 +326,4 @@ main_grows files n d (Some p) = grows_bind U (statements n (calls_of files n d p
 
 -- the law for whole programs
 pub meaning_monotone : (files : List CFile) (input : List ℕ) → IsMonotone (CMeaning files input)
-meaning_monotone files input = outcomes_monotone (λ n d. run_main files n d (main_of files)) (begin input) (written [] []) (λ n n' d d' ln ld. main_longer files n n' d d' ln ld (main_of files)) (λ n d. main_grows files n d (main_of files))
+meaning_monotone files input = outcomes_monotone (λ n d. run_main files n d (main_of files)) (begin files input) (written [] []) (λ n n' d d' ln ld. main_longer files n n' d d' ln ld (main_of files)) (λ n d. main_grows files n d (main_of files))

@@ -4,12 +4,13 @@ use Rattle.lf_base.specs.declared.name.Name.{Name}
 use Rattle.c_nodes.specs.declared.tree.CBinary.{CBinary}
 use Rattle.c_nodes.specs.declared.tree.CType.{CType}
 use Rattle.c_nodes.specs.declared.tree.CExpr.{CExpr, CExpr-F, map-CExpr, roll-CExpr, ind-CExpr, fold-CExpr, fold-roll-CExpr}
-use Rattle.c_nodes.specs.declared.tree.CExpr.TheVariants.{Variable, Index, Constant, Greatest, Least, Paren, Negate, Not, Binary, Cast, ToInt, Address, Literal, rolls-Variable, rolls-Index, rolls-Constant, rolls-Greatest, rolls-Least, rolls-Paren, rolls-Negate, rolls-Not, rolls-Binary, rolls-Cast, rolls-ToInt, rolls-Address, rolls-Literal}
+use Rattle.c_nodes.specs.declared.tree.CExpr.TheVariants.{Variable, Index, Member, Constant, Greatest, Least, Paren, Negate, Not, Binary, Cast, ToInt, Address, Literal, rolls-Variable, rolls-Index, rolls-Member, rolls-Constant, rolls-Greatest, rolls-Least, rolls-Paren, rolls-Negate, rolls-Not, rolls-Binary, rolls-Cast, rolls-ToInt, rolls-Address, rolls-Literal}
 
 -- what holds of each shape, if it holds of its parts
 pub record Cases (P : CExpr → Type 0) : Type 0 where
   pub variable : (name : Name) → P (Variable name)
   pub index : (base : CExpr) (subscript : CExpr) → P base → P subscript → P (Index base subscript)
+  pub member : (base : CExpr) (name : Name) → P base → P (Member base name)
   pub constant : (value : ℕ) → P (Constant value)
   pub greatest : P Greatest
   pub least : P Least
@@ -31,6 +32,7 @@ bare P e = e.0
 layer : (P : CExpr → Type 0) → Cases P → (y : CExpr-F (Shown P)) → P (roll-CExpr (map-CExpr (Shown P) CExpr (bare P) y))
 layer P c (CExpr-F.Variable name) = subst P (sym (rolls-Variable name)) (c.variable name)
 layer P c (CExpr-F.Index base subscript) = subst P (sym (rolls-Index base.0 subscript.0)) (c.index base.0 subscript.0 base.1 subscript.1)
+layer P c (CExpr-F.Member base name) = subst P (sym (rolls-Member base.0 name)) (c.member base.0 name base.1)
 layer P c (CExpr-F.Constant value) = subst P (sym (rolls-Constant value)) (c.constant value)
 layer P c CExpr-F.Greatest = subst P (sym rolls-Greatest) c.greatest
 layer P c CExpr-F.Least = subst P (sym rolls-Least) c.least
@@ -56,6 +58,9 @@ module _ (A : Type 0) (step : CExpr-F A → A) where
 
   pub fold-Index : (base : CExpr) (subscript : CExpr) → f (Index base subscript) ≡ step (CExpr-F.Index (f base) (f subscript))
   fold-Index base subscript = ap f (sym (rolls-Index base subscript)) ∙ fold-roll-CExpr A step (CExpr-F.Index base subscript)
+
+  pub fold-Member : (base : CExpr) (name : Name) → f (Member base name) ≡ step (CExpr-F.Member (f base) name)
+  fold-Member base name = ap f (sym (rolls-Member base name)) ∙ fold-roll-CExpr A step (CExpr-F.Member base name)
 
   pub fold-Constant : (value : ℕ) → f (Constant value) ≡ step (CExpr-F.Constant value)
   fold-Constant value = ap f (sym (rolls-Constant value)) ∙ fold-roll-CExpr A step (CExpr-F.Constant value)

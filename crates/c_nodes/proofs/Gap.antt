@@ -17,7 +17,7 @@ use Rattle.c_nodes.specs.declared.tree.CBinary.TheVariants.{Differ, And, Or}
 use Rattle.c_nodes.specs.declared.tree.CExpr.TheVariants.{Variable, Index, Constant, Paren, Binary}
 use Rattle.c_nodes.specs.declared.tree.CStmt.TheVariants.{Assign, Call, If}
 use Rattle.c_nodes.specs.CValues.{W32, W64, Local, Number, Pointer, fits, truth}
-use Rattle.c_nodes.specs.CState.{Slot, Cells, Leads, Frame, State, nth, frame_slot, object_at, put_object}
+use Rattle.c_nodes.specs.CState.{Around, Slot, Cells, Leads, Frame, State, nth, frame_slot, object_at, put_object}
 use Rattle.c_nodes.specs.CMeaning.{reading, Element, Calls, Procedure, written_byte, left, call, on_procedure, calls_of, statement, statements}
 use Rattle.c_nodes.specs.HelperLaws.{gap, WritesGap}
 use Rattle.c_nodes.proofs.CExprs.{exprs}
@@ -48,14 +48,14 @@ gap_frame up id k = record {
 }
 
 -- the object is the same, seen from the function that is called
-seen : (up id : ℕ) (caller : Frame) (callers : List Frame) (here : Frame) (input : List ℕ) → object_at (Local (suc up) id) (record { here = here; callers = caller ∷ callers; input = input }) ≡ object_at (Local up id) (record { here = caller; callers = callers; input = input })
-seen zero id caller callers here input = refl
-seen (suc up) id caller callers here input = refl
+seen : (up id : ℕ) (caller : Frame) (callers : List Frame) (here : Frame) (around : Around) → object_at (Local (suc up) id) (record { here = here; callers = caller ∷ callers; around = around }) ≡ object_at (Local up id) (record { here = caller; callers = callers; around = around })
+seen zero id caller callers here around = refl
+seen (suc up) id caller callers here around = refl
 
 -- and it is changed for the caller
-changed : (up id : ℕ) (slot : Slot) (caller : Frame) (callers : List Frame) (here : Frame) (input : List ℕ) → left (put_object (Local (suc up) id) slot (record { here = here; callers = caller ∷ callers; input = input })) ≡ put_object (Local up id) slot (record { here = caller; callers = callers; input = input })
-changed zero id slot caller callers here input = refl
-changed (suc up) id slot caller callers here input = refl
+changed : (up id : ℕ) (slot : Slot) (caller : Frame) (callers : List Frame) (here : Frame) (around : Around) → left (put_object (Local (suc up) id) slot (record { here = here; callers = caller ∷ callers; around = around })) ≡ put_object (Local up id) slot (record { here = caller; callers = callers; around = around })
+changed zero id slot caller callers here around = refl
+changed (suc up) id slot caller callers here around = refl
 
 abbrev blanked : Bool → List ℕ
 blanked true = 32 ∷ []
@@ -84,7 +84,7 @@ module _ (files : List CFile) (n d file up id : ℕ) (is_array : Bool) (g : ℤ)
   steps = calls_of files n d file
 
   abbrev inside : State
-  inside = record { here = gap_frame up id k; callers = s.here ∷ s.callers; input = s.input }
+  inside = record { here = gap_frame up id k; callers = s.here ∷ s.callers; around = s.around }
 
   abbrev slot : Slot
   slot = Cells Int64 is_array (Some k ∷ cells)
@@ -93,7 +93,7 @@ module _ (files : List CFile) (n d file up id : ℕ) (is_array : Bool) (g : ℤ)
   after = put_object (Local (suc up) id) slot inside
 
   there : frame_slot id (nth up (s.here ∷ s.callers)) ≡ Some (Cells Int64 is_array (Some g ∷ cells))
-  there = seen up id s.here s.callers (gap_frame up id k) s.input ∙ is
+  there = seen up id s.here s.callers (gap_frame up id k) s.around ∙ is
 
   first_is : (reading first).value inside ≡ Some (Number W64 g)
   first_is = simp (exprs, there) refl
@@ -137,8 +137,8 @@ gap_law files file h n d up id is_array g cells v k s w is fk =
     let p : Procedure = record { file = file; result = result.Void; parameters = parameter.Pointer Int64 (codes "s") ∷ parameter.Value Int64 (codes "k") ∷ []; body = gap_body } in
     let calls = calls_of files n d file in
     let slot : Slot = Cells Int64 is_array (Some k ∷ cells) in
-    let inside : State = record { here = gap_frame up id k; callers = s.here ∷ s.callers; input = s.input } in
+    let inside : State = record { here = gap_frame up id k; callers = s.here ∷ s.callers; around = s.around } in
     let half : Frame = record { next = 1; names = record { name = codes "s"; id = 0; slot = Leads (Some (Local (suc up) id, 0)) } ∷ [] } in
     ap (λ q. on_procedure q (λ q. call n (calls_of files n d q.file) q (Pointer (Local up id) 0 ∷ Number v k ∷ [])) s w) (found files file h (codes "lf_gap") p (λ rest. refl))
     ∙ call_going n calls p (Pointer (Local up id) 0 ∷ Number v k ∷ []) (gap_frame up id k) s w (binds64 (codes "k") [] v k [] half fk) None (put_object (Local (suc up) id) slot inside) (record { out = w.out ++ gap g k; err = w.err }) (gap_runs files n d file up id is_array g cells k fk s w is)
-    ∙ ap (λ t. Going None t (record { out = w.out ++ gap g k; err = w.err })) (changed up id slot s.here s.callers (gap_frame up id k) s.input)
+    ∙ ap (λ t. Going None t (record { out = w.out ++ gap g k; err = w.err })) (changed up id slot s.here s.callers (gap_frame up id k) s.around)

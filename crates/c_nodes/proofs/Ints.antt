@@ -20,8 +20,8 @@ use Rattle.c_nodes.specs.declared.tree.CBinary.TheVariants.{Add, Subtract, Divid
 use Rattle.c_nodes.specs.declared.tree.CExpr.TheVariants.{Variable, Index, Constant, Paren, Binary}
 use Rattle.c_nodes.specs.declared.tree.CStmt.TheVariants.{Assign, Call, DeclareValue, DeclareArray, While, If}
 use Rattle.c_nodes.specs.CValues.{Width, W32, W64, Local, Number, fits, checked, truth}
-use Rattle.c_nodes.specs.CState.{Cells, Frame, State, nth, set_nth, element, no_names}
-use Rattle.c_nodes.specs.CMeaning.{reading, all_given, Element, block, tested, Calls, Doing, Procedure, written_byte, call, on_procedure, calls_of, statement, statements}
+use Rattle.c_nodes.specs.CState.{Around, Cells, Frame, State, nth, set_nth, element, no_names}
+use Rattle.c_nodes.specs.CMeaning.{reading, all_given, Element, block, tested, Calls, Doing, Procedure, written_byte, call, on_procedure, calls_of, clause, statement, statements}
 use Rattle.c_nodes.specs.HelperLaws.{HasPrelude, WritesInt}
 use Rattle.c_nodes.proofs.CExprs.{exprs}
 use Rattle.c_nodes.proofs.CNumbers.{fits64_nat, not_zero}
@@ -42,8 +42,8 @@ abbrev cell : CExpr
 cell = Index (Variable (codes "b")) N
 
 -- a is what is left of the number, n the count of digits, d the last one, and b their cells
-abbrev int_state : ℤ → ℕ → ℤ → List (Option ℤ) → List Frame → List ℕ → State
-int_state z k d cells callers input = record {
+abbrev int_state : ℤ → ℕ → ℤ → List (Option ℤ) → List Frame → Around → State
+int_state z k d cells callers around = record {
   here = record {
     next = 4;
     names =
@@ -53,7 +53,7 @@ int_state z k d cells callers input = record {
         ∷ record { name = codes "a"; id = 0; slot = Cells Int64 false (Some z ∷ []) } ∷ [];
   };
   callers = callers;
-  input = input;
+  around = around;
 }
 
 abbrev more_test : CExpr
@@ -82,14 +82,14 @@ module _ (n : ℕ) (calls : Calls) where
   plain_stays : (s : State) (w : Written) → (reading (Binary Less D (Constant 0))).value s ≡ Some (truth false) → statement n calls flip_digit s w ≡ Going None s w
   plain_stays s w h = run_if_not n calls (Binary Less D (Constant 0)) (Assign D (Binary Subtract (Constant 0) D) ∷ []) (truth false) s w h refl
 
-  by_sign : (neg : Bool) (callers : List Frame) (input : List ℕ) (w : Written) (m k r : ℕ) (cells : List (Option ℤ)) → r < 10 → statement n calls flip_digit (int_state (signed neg m) k (signed neg r) cells callers input) w ≡ Going None (int_state (signed neg m) k (pos r) cells callers input) w
-  by_sign false callers input w m k r cells small =
+  by_sign : (neg : Bool) (callers : List Frame) (around : Around) (w : Written) (m k r : ℕ) (cells : List (Option ℤ)) → r < 10 → statement n calls flip_digit (int_state (signed neg m) k (signed neg r) cells callers around) w ≡ Going None (int_state (signed neg m) k (pos r) cells callers around) w
+  by_sign false callers around w m k r cells small =
       let no : int_lt (pos r) (pos 0) ≡ false = grind (arith, ints) in
-      plain_stays (int_state (signed false m) k (pos r) cells callers input) w (simp (exprs, no) refl)
-  by_sign true callers input w m k zero cells small = plain_stays (int_state (signed true m) k (pos 0) cells callers input) w (simp exprs refl)
-  by_sign true callers input w m k (suc r) cells small =
-      let before = int_state (signed true m) k (negsuc r) cells callers input in
-      let after = int_state (signed true m) k (pos (suc r)) cells callers input in
+      plain_stays (int_state (signed false m) k (pos r) cells callers around) w (simp (exprs, no) refl)
+  by_sign true callers around w m k zero cells small = plain_stays (int_state (signed true m) k (pos 0) cells callers around) w (simp exprs refl)
+  by_sign true callers around w m k (suc r) cells small =
+      let before = int_state (signed true m) k (negsuc r) cells callers around in
+      let after = int_state (signed true m) k (pos (suc r)) cells callers around in
       let f : fits W64 (pos (suc r)) ≡ true = fits64_nat (suc r) (omega arith) in
       let g : fits W64 (pos (0 + suc r)) ≡ true = fits64_nat (0 + suc r) (omega arith) in
       if_so n calls (Binary Less D (Constant 0)) (Assign D (Binary Subtract (Constant 0) D) ∷ []) (truth true) before w (simp exprs refl) refl
@@ -97,12 +97,12 @@ module _ (n : ℕ) (calls : Calls) where
       (order_next (statement n calls (Assign D (Binary Subtract (Constant 0) D))) [] before w after w
       (run_assign n calls D (Binary Subtract (Constant 0) D) (Number W64 (pos (suc r))) (Element (Local 0 2) 0) before after w (simp (exprs, flipped r, g) refl) (simp exprs refl) (simp f refl)))
 
-module _ (n : ℕ) (calls : Calls) (neg : Bool) (callers : List Frame) (input : List ℕ) (w : Written) where
+module _ (n : ℕ) (calls : Calls) (neg : Bool) (callers : List Frame) (around : Around) (w : Written) where
   abbrev doing : CStmt → Doing
   doing = statement n calls
 
   abbrev at : ℕ → ℕ → ℤ → List (Option ℤ) → State
-  at m k d cells = int_state (signed neg m) k d cells callers input
+  at m k d cells = int_state (signed neg m) k d cells callers around
 
   -- the last digit
   takes : (m k : ℕ) (d : ℤ) (cells : List (Option ℤ)) → fits W64 (signed neg m) ≡ true → doing take_digit (at m k d cells) w ≡ Going None (at m k (signed neg (m % 10)) cells) w
@@ -114,7 +114,7 @@ module _ (n : ℕ) (calls : Calls) (neg : Bool) (callers : List Frame) (input : 
 
   -- without its sign
   flips : (m k r : ℕ) (cells : List (Option ℤ)) → r < 10 → doing flip_digit (at m k (signed neg r) cells) w ≡ Going None (at m k (pos r) cells) w
-  flips m k r cells small = by_sign n calls neg callers input w m k r cells small
+  flips m k r cells small = by_sign n calls neg callers around w m k r cells small
 
   keeps : (m k r : ℕ) (done : List ℕ) (tail : List (Option ℤ)) → k ≡ length done → r < 10 → doing keep_digit (at m k (pos r) (filled done (None ∷ tail))) w ≡ Going None (at m k (pos r) (filled (done ++ (48 + r) ∷ []) tail)) w
   keeps m k r done tail e small =
@@ -135,7 +135,7 @@ module _ (n : ℕ) (calls : Calls) (neg : Bool) (callers : List Frame) (input : 
       (simp (exprs, fits64_nat (k + 1) (omega arith)) refl) (simp exprs refl) (simp (fits64_nat (k + 1) (omega arith)) refl)
 
   -- one turn
-  stores : (m k : ℕ) (d : ℤ) (done : List ℕ) (tail : List (Option ℤ)) → fits W64 (signed neg m) ≡ true → k ≡ length done → k < 1000000 → block (map doing storing) (at m k d (filled done (None ∷ tail))) w ≡ Going None (at (m / 10) (k + 1) (pos (m % 10)) (filled (done ++ (48 + m % 10) ∷ []) tail)) w
+  stores : (m k : ℕ) (d : ℤ) (done : List ℕ) (tail : List (Option ℤ)) → fits W64 (signed neg m) ≡ true → k ≡ length done → k < 1000000 → block (map (clause n calls) storing) (at m k d (filled done (None ∷ tail))) w ≡ Going None (at (m / 10) (k + 1) (pos (m % 10)) (filled (done ++ (48 + m % 10) ∷ []) tail)) w
   stores m k d done tail f e small =
       let r : ℕ = m % 10 in
       let cells = filled done (None ∷ tail) in
@@ -163,7 +163,7 @@ module _ (n : ℕ) (calls : Calls) (neg : Bool) (callers : List Frame) (input : 
   test = tested more_test
 
   abbrev body : Doing
-  body = block (map doing storing)
+  body = block (map (clause n calls) storing)
 
   -- the loop stores the digits from the last one on
   abbrev pub Stores : ℕ → List ℕ → Type 0
@@ -223,18 +223,18 @@ bytes_more (d ∷ ds) b h k = (h.0, bytes_more ds b h.1 k)
 pub decimal_bytes : (m : ℕ) → m < 2 ^ 64 → AllBytes (decimal m)
 decimal_bytes m h = decimal_by_steps (λ n ds. AllBytes ds) (λ n small. (omega arith, tt)) (λ n ds large all. bytes_more ds (48 + n % 10) all (omega arith)) m h
 
-module _ (files : List CFile) (n d file : ℕ) (z e : ℤ) (callers : List Frame) (input : List ℕ) where
+module _ (files : List CFile) (n d file : ℕ) (z e : ℤ) (callers : List Frame) (around : Around) where
   abbrev steps : Calls
   steps = calls_of files n d file
 
   abbrev here : ℕ → List (Option ℤ) → State
-  here k cells = int_state z k e cells callers input
+  here k cells = int_state z k e cells callers around
 
   abbrev left_test : Act State Bool
   left_test = tested some_left
 
   abbrev writes : Doing
-  writes = block (map (statement n steps) writing)
+  writes = block (map (clause n steps) writing)
 
   backs : (k : ℕ) (cells : List (Option ℤ)) (w : Written) → k < 1000000 → statement n steps back_one (here (k + 1) cells) w ≡ Going None (here k cells) w
   backs k cells w small =
@@ -280,7 +280,7 @@ abbrev sign_of : Bool → List ℕ
 sign_of true = 45 ∷ []
 sign_of false = []
 
-module _ (files : List CFile) (n d file : ℕ) (enough : 20 ≤ n) (neg : Bool) (m : ℕ) (fm : fits W64 (signed neg m) ≡ true) (callers : List Frame) (input : List ℕ) (w : Written) where
+module _ (files : List CFile) (n d file : ℕ) (enough : 20 ≤ n) (neg : Bool) (m : ℕ) (fm : fits W64 (signed neg m) ≡ true) (callers : List Frame) (around : Around) (w : Written) where
   abbrev doing' : CStmt → Doing
   doing' = statement n (calls_of files n d file)
 
@@ -297,16 +297,16 @@ module _ (files : List CFile) (n d file : ℕ) (enough : 20 ≤ n) (neg : Bool) 
   tail = replicate (20 - length ds) None
 
   abbrev s0 : State
-  s0 = record { here = record { next = 1; names = record { name = codes "a"; id = 0; slot = Cells Int64 false (Some (signed neg m) ∷ []) } ∷ [] }; callers = callers; input = input }
+  s0 = record { here = record { next = 1; names = record { name = codes "a"; id = 0; slot = Cells Int64 false (Some (signed neg m) ∷ []) } ∷ [] }; callers = callers; around = around }
 
   abbrev s1 : State
-  s1 = record { here = record { next = 2; names = record { name = codes "n"; id = 1; slot = Cells Int64 false (Some (pos 0) ∷ []) } ∷ s0.here.names }; callers = callers; input = input }
+  s1 = record { here = record { next = 2; names = record { name = codes "n"; id = 1; slot = Cells Int64 false (Some (pos 0) ∷ []) } ∷ s0.here.names }; callers = callers; around = around }
 
   abbrev s2 : State
-  s2 = record { here = record { next = 3; names = record { name = codes "d"; id = 2; slot = Cells Int64 false (Some (pos 0) ∷ []) } ∷ s1.here.names }; callers = callers; input = input }
+  s2 = record { here = record { next = 3; names = record { name = codes "d"; id = 2; slot = Cells Int64 false (Some (pos 0) ∷ []) } ∷ s1.here.names }; callers = callers; around = around }
 
   abbrev s3 : State
-  s3 = int_state (signed neg m) 0 (pos 0) (replicate 20 None) callers input
+  s3 = int_state (signed neg m) 0 (pos 0) (replicate 20 None) callers around
 
   abbrev w1 : Written
   w1 = record { out = w.out ++ sign_of (int_lt (signed neg m) (pos 0)); err = w.err }
@@ -334,24 +334,24 @@ module _ (files : List CFile) (n d file : ℕ) (enough : 20 ≤ n) (neg : Bool) 
       (order_next (doing' (Call (codes "putchar") (Constant 45 ∷ []))) [] s3 w s3 v
       (run_call n (calls_of files n d file) (codes "putchar") (Constant 45 ∷ []) (Number W32 (pos 45) ∷ []) (written_byte (pos 45)) s3 s3 w v (simp exprs refl) (ap (λ f. f s3 w) (calls_putchar files n file d (Number W32 (pos 45) ∷ [])) ∙ prints 45 (omega arith) s3 w)))
 
-  stored : (e : ℤ) × (iterate n (tested more_test) (block (map doing' storing)) (int_state (signed neg m) 0 (pos 0) (filled [] (unset ds tail)) callers input) w1 ≡ Going None (int_state (signed neg 0) (0 + length ds) e (filled ([] ++ back ds) tail) callers input) w1)
-  stored = stores_all n (calls_of files n d file) neg callers input w1 m small 0 (pos 0) [] tail n refl (inl refl) (omega (arith, few)) (omega (arith, few)) fm
+  stored : (e : ℤ) × (iterate n (tested more_test) (block (map (clause n (calls_of files n d file)) storing)) (int_state (signed neg m) 0 (pos 0) (filled [] (unset ds tail)) callers around) w1 ≡ Going None (int_state (signed neg 0) (0 + length ds) e (filled ([] ++ back ds) tail) callers around) w1)
+  stored = stores_all n (calls_of files n d file) neg callers around w1 m small 0 (pos 0) [] tail n refl (inl refl) (omega (arith, few)) (omega (arith, few)) fm
 
-  written : (cells : List (Option ℤ)) × (iterate n (tested some_left) (block (map doing' writing)) (int_state (signed neg 0) (length ds) stored.0 (filled (back ds) tail) callers input) w1 ≡ Going None (int_state (signed neg 0) 0 stored.0 cells callers input) (record { out = w1.out ++ ds; err = w1.err }))
-  written = written_all files n d file (signed neg 0) stored.0 callers input n ds tail w1 (omega (arith, few)) (omega (arith, few)) (decimal_bytes m small)
+  written : (cells : List (Option ℤ)) × (iterate n (tested some_left) (block (map (clause n (calls_of files n d file)) writing)) (int_state (signed neg 0) (length ds) stored.0 (filled (back ds) tail) callers around) w1 ≡ Going None (int_state (signed neg 0) 0 stored.0 cells callers around) (record { out = w1.out ++ ds; err = w1.err }))
+  written = written_all files n d file (signed neg 0) stored.0 callers around n ds tail w1 (omega (arith, few)) (omega (arith, few)) (decimal_bytes m small)
 
   abbrev s5 : State
-  s5 = int_state (signed neg 0) (length ds) stored.0 (filled (back ds) tail) callers input
+  s5 = int_state (signed neg 0) (length ds) stored.0 (filled (back ds) tail) callers around
 
   abbrev s6 : State
-  s6 = int_state (signed neg 0) 0 stored.0 written.0 callers input
+  s6 = int_state (signed neg 0) 0 stored.0 written.0 callers around
 
   step5 : doing' (While more_test storing) s3 w1 ≡ Going None s5 w1
   step5 =
       ap (λ f. f s3 w1) (while_is n (calls_of files n d file) more_test storing)
-      ∙ ap (λ l. iterate n (tested more_test) (block (map doing' storing)) (int_state (signed neg m) 0 (pos 0) l callers input) w1) (unset_all ds 20 few)
+      ∙ ap (λ l. iterate n (tested more_test) (block (map (clause n (calls_of files n d file)) storing)) (int_state (signed neg m) 0 (pos 0) l callers around) w1) (unset_all ds 20 few)
       ∙ stored.1
-      ∙ ap (λ k. Going None (int_state (signed neg 0) k stored.0 (filled (back ds) tail) callers input) w1) (zero-add (length ds))
+      ∙ ap (λ k. Going None (int_state (signed neg 0) k stored.0 (filled (back ds) tail) callers around) w1) (zero-add (length ds))
 
   step6 : doing' (While some_left writing) s5 w1 ≡ Going None s6 (record { out = w1.out ++ ds; err = w1.err })
   step6 = ap (λ f. f s5 w1) (while_is n (calls_of files n d file) some_left writing) ∙ written.1
@@ -380,7 +380,7 @@ int_call files file h n d enough v z f neg m e o s w =
     let frame : Frame = record { next = 1; names = record { name = codes "a"; id = 0; slot = Cells Int64 false (Some (signed neg m) ∷ []) } ∷ [] } in
     ap (λ x. calls_of files n (suc d) file (codes "lf_int") (Number v x ∷ []) s w) e
     ∙ ap (λ q. on_procedure q (λ q. call n (calls_of files n d q.file) q (Number v (signed neg m) ∷ [])) s w) (found files file h (codes "lf_int") p (λ rest. refl))
-    ∙ call_going n calls p (Number v (signed neg m) ∷ []) frame s w (binds64 (codes "a") [] v (signed neg m) [] no_names fm) None (s6 files n d file enough neg m fm (s.here ∷ s.callers) s.input w) (record { out = (w.out ++ sign_of (int_lt (signed neg m) (pos 0))) ++ decimal m; err = w.err }) (int_runs files n d file enough neg m fm (s.here ∷ s.callers) s.input w)
+    ∙ call_going n calls p (Number v (signed neg m) ∷ []) frame s w (binds64 (codes "a") [] v (signed neg m) [] no_names fm) None (s6 files n d file enough neg m fm (s.here ∷ s.callers) s.around w) (record { out = (w.out ++ sign_of (int_lt (signed neg m) (pos 0))) ++ decimal m; err = w.err }) (int_runs files n d file enough neg m fm (s.here ∷ s.callers) s.around w)
     ∙ ap (λ out. Going None s (record { out = out; err = w.err })) (shown neg m z e w.out o)
 
 pub int_law : WritesInt

@@ -1,71 +1,74 @@
 -- What each shape is in a scope, by what its parts are.
 use Rattle.std.proofs.Common.{◌≡◌, ℕ, Bool, true, ◌&&◌, List, map}
-use Rattle.std.specs.Prelude.{not, if◌then◌else◌, None}
+use Rattle.std.specs.Prelude.{not, if◌then◌else◌, Some, None}
 use Rattle.lf_base.specs.declared.name.Name.{Name}
 use Rattle.c_nodes.specs.declared.tree.CBinary.{CBinary}
 use Rattle.c_nodes.specs.declared.tree.CType.{CType}
 use Rattle.c_nodes.specs.declared.tree.CType.TheVariants.{Byte}
 use Rattle.c_nodes.specs.declared.tree.CResult.{CResult}
 use Rattle.c_nodes.specs.declared.tree.CExpr.{CExpr}
-use Rattle.c_nodes.specs.declared.tree.CExpr.TheVariants.{Variable, Index, Constant, Greatest, Least, Paren, Negate, Not, Binary, Cast, ToInt, Address, Literal}
+use Rattle.c_nodes.specs.declared.tree.CExpr.TheVariants.{Variable, Index, Member, Constant, Greatest, Least, Paren, Negate, Not, Binary, Cast, ToInt, Address, Literal}
 use Rattle.c_nodes.specs.declared.tree.CStmt.{CStmt}
-use Rattle.c_nodes.specs.declared.tree.CStmt.TheVariants.{Declare, DeclareArray, DeclareValue, DeclarePointer, DeclareCall, Assign, AssignCall, Call, Return, ReturnValue, ReturnCall, Block, While, If, IfElse}
-use Rattle.c_nodes.specs.Linking.{Typed, Object, Number, Array, Leads, is_number, leads_to, number_if, element_if, address_of, typed_layer, Scope, type_of_name, type_of, Signature, call_gives, is_void, is_call, is_value, may_assign, Step, kept_if, declared, initialized, is_block, step_layer, step, all_do, calls_layer, calls_only}
+use Rattle.c_nodes.specs.declared.tree.CStmt.TheVariants.{Declare, DeclareArray, DeclareValue, DeclarePointer, DeclareCall, Assign, AssignCall, Call, Return, ReturnValue, ReturnCall, Goto, Label, Block, While, If, IfElse}
+use Rattle.c_nodes.specs.Linking.{Typed, Object, Number, Array, Leads, is_scalar, is_number, takes_value, leads_to, number_if, element_if, address_of, member_of, typed_layer, Scope, type_of_name, type_of, Signature, call_gives, is_void, is_call, is_value, may_assign, Step, kept_if, declared_as, initialized, is_block, step_layer, step, all_do, calls_layer, calls_only}
 use Rattle.c_nodes.proofs.ExprInduction as expressions
 use Rattle.c_nodes.proofs.StmtInduction as statements
 
 pub type_of-Variable : (s : Scope) (name : Name) → type_of s (Variable name) ≡ type_of_name s name
-type_of-Variable s name = expressions.fold-Variable Typed (typed_layer (type_of_name s)) name
+type_of-Variable s name = expressions.fold-Variable Typed (typed_layer s.structures (type_of_name s)) name
 
 pub type_of-Index : (s : Scope) (base subscript : CExpr) → type_of s (Index base subscript) ≡ element_if (is_number (type_of s subscript)) (type_of s base)
-type_of-Index s base subscript = expressions.fold-Index Typed (typed_layer (type_of_name s)) base subscript
+type_of-Index s base subscript = expressions.fold-Index Typed (typed_layer s.structures (type_of_name s)) base subscript
+
+pub type_of-Member : (s : Scope) (base : CExpr) (name : Name) → type_of s (Member base name) ≡ member_of s.structures name (type_of s base)
+type_of-Member s base name = expressions.fold-Member Typed (typed_layer s.structures (type_of_name s)) base name
 
 pub type_of-Constant : (s : Scope) (value : ℕ) → type_of s (Constant value) ≡ Number
-type_of-Constant s value = expressions.fold-Constant Typed (typed_layer (type_of_name s)) value
+type_of-Constant s value = expressions.fold-Constant Typed (typed_layer s.structures (type_of_name s)) value
 
 pub type_of-Greatest : (s : Scope) → type_of s Greatest ≡ Number
-type_of-Greatest s = expressions.fold-Greatest Typed (typed_layer (type_of_name s))
+type_of-Greatest s = expressions.fold-Greatest Typed (typed_layer s.structures (type_of_name s))
 
 pub type_of-Least : (s : Scope) → type_of s Least ≡ Number
-type_of-Least s = expressions.fold-Least Typed (typed_layer (type_of_name s))
+type_of-Least s = expressions.fold-Least Typed (typed_layer s.structures (type_of_name s))
 
 pub type_of-Paren : (s : Scope) (inner : CExpr) → type_of s (Paren inner) ≡ type_of s inner
-type_of-Paren s inner = expressions.fold-Paren Typed (typed_layer (type_of_name s)) inner
+type_of-Paren s inner = expressions.fold-Paren Typed (typed_layer s.structures (type_of_name s)) inner
 
 pub type_of-Negate : (s : Scope) (operand : CExpr) → type_of s (Negate operand) ≡ number_if (is_number (type_of s operand))
-type_of-Negate s operand = expressions.fold-Negate Typed (typed_layer (type_of_name s)) operand
+type_of-Negate s operand = expressions.fold-Negate Typed (typed_layer s.structures (type_of_name s)) operand
 
 pub type_of-Not : (s : Scope) (operand : CExpr) → type_of s (Not operand) ≡ number_if (is_number (type_of s operand))
-type_of-Not s operand = expressions.fold-Not Typed (typed_layer (type_of_name s)) operand
+type_of-Not s operand = expressions.fold-Not Typed (typed_layer s.structures (type_of_name s)) operand
 
 pub type_of-Binary : (s : Scope) (operator : CBinary) (left right : CExpr) → type_of s (Binary operator left right) ≡ number_if (is_number (type_of s left) && is_number (type_of s right))
-type_of-Binary s operator left right = expressions.fold-Binary Typed (typed_layer (type_of_name s)) operator left right
+type_of-Binary s operator left right = expressions.fold-Binary Typed (typed_layer s.structures (type_of_name s)) operator left right
 
-pub type_of-Cast : (s : Scope) (kind : CType) (operand : CExpr) → type_of s (Cast kind operand) ≡ number_if (is_number (type_of s operand))
-type_of-Cast s kind operand = expressions.fold-Cast Typed (typed_layer (type_of_name s)) kind operand
+pub type_of-Cast : (s : Scope) (kind : CType) (operand : CExpr) → type_of s (Cast kind operand) ≡ number_if (is_scalar kind && is_number (type_of s operand))
+type_of-Cast s kind operand = expressions.fold-Cast Typed (typed_layer s.structures (type_of_name s)) kind operand
 
 pub type_of-ToInt : (s : Scope) (operand : CExpr) → type_of s (ToInt operand) ≡ number_if (is_number (type_of s operand))
-type_of-ToInt s operand = expressions.fold-ToInt Typed (typed_layer (type_of_name s)) operand
+type_of-ToInt s operand = expressions.fold-ToInt Typed (typed_layer s.structures (type_of_name s)) operand
 
 pub type_of-Address : (s : Scope) (place : CExpr) → type_of s (Address place) ≡ address_of (type_of s place)
-type_of-Address s place = expressions.fold-Address Typed (typed_layer (type_of_name s)) place
+type_of-Address s place = expressions.fold-Address Typed (typed_layer s.structures (type_of_name s)) place
 
 pub type_of-Literal : (s : Scope) (bytes : List ℕ) → type_of s (Literal bytes) ≡ Leads Byte
-type_of-Literal s bytes = expressions.fold-Literal Typed (typed_layer (type_of_name s)) bytes
+type_of-Literal s bytes = expressions.fold-Literal Typed (typed_layer s.structures (type_of_name s)) bytes
 
-pub step-Declare : (known : List Signature) (gives : CResult) (kind : CType) (name : Name) → step known gives (Declare kind name) ≡ record { behind = λ s. declared name (Object kind) s }
+pub step-Declare : (known : List Signature) (gives : CResult) (kind : CType) (name : Name) → step known gives (Declare kind name) ≡ record { behind = λ s. declared_as kind name (Object kind) s }
 step-Declare known gives kind name = statements.fold-Declare Step (step_layer known gives) kind name
 
-pub step-DeclareArray : (known : List Signature) (gives : CResult) (kind : CType) (name : Name) (size : CExpr) → step known gives (DeclareArray kind name size) ≡ record { behind = λ s. if is_number (type_of s size) then declared name (Array kind) s else None }
+pub step-DeclareArray : (known : List Signature) (gives : CResult) (kind : CType) (name : Name) (size : CExpr) → step known gives (DeclareArray kind name size) ≡ record { behind = λ s. if is_number (type_of s size) then declared_as kind name (Array kind) s else None }
 step-DeclareArray known gives kind name size = statements.fold-DeclareArray Step (step_layer known gives) kind name size
 
-pub step-DeclareValue : (known : List Signature) (gives : CResult) (kind : CType) (name : Name) (value : CExpr) → step known gives (DeclareValue kind name value) ≡ record { behind = λ s. initialized (declared name (Object kind) s) (λ i. is_number (type_of i value)) }
+pub step-DeclareValue : (known : List Signature) (gives : CResult) (kind : CType) (name : Name) (value : CExpr) → step known gives (DeclareValue kind name value) ≡ record { behind = λ s. initialized (declared_as kind name (Object kind) s) (λ i. takes_value kind (type_of i value)) }
 step-DeclareValue known gives kind name value = statements.fold-DeclareValue Step (step_layer known gives) kind name value
 
-pub step-DeclarePointer : (known : List Signature) (gives : CResult) (kind : CType) (name : Name) (value : CExpr) → step known gives (DeclarePointer kind name value) ≡ record { behind = λ s. initialized (declared name (Leads kind) s) (λ i. leads_to kind (type_of i value)) }
+pub step-DeclarePointer : (known : List Signature) (gives : CResult) (kind : CType) (name : Name) (value : CExpr) → step known gives (DeclarePointer kind name value) ≡ record { behind = λ s. initialized (declared_as kind name (Leads kind) s) (λ i. leads_to kind (type_of i value)) }
 step-DeclarePointer known gives kind name value = statements.fold-DeclarePointer Step (step_layer known gives) kind name value
 
-pub step-DeclareCall : (known : List Signature) (gives : CResult) (kind : CType) (name callee : Name) (arguments : List CExpr) → step known gives (DeclareCall kind name callee arguments) ≡ record { behind = λ s. initialized (declared name (Object kind) s) (λ i. is_value (call_gives known i callee arguments)) }
+pub step-DeclareCall : (known : List Signature) (gives : CResult) (kind : CType) (name callee : Name) (arguments : List CExpr) → step known gives (DeclareCall kind name callee arguments) ≡ record { behind = λ s. initialized (declared_as kind name (Object kind) s) (λ i. takes_value kind Number && is_value (call_gives known i callee arguments)) }
 step-DeclareCall known gives kind name callee arguments = statements.fold-DeclareCall Step (step_layer known gives) kind name callee arguments
 
 pub step-Assign : (known : List Signature) (gives : CResult) (target value : CExpr) → step known gives (Assign target value) ≡ record { behind = λ s. kept_if (may_assign (type_of s target) (type_of s value)) s }
@@ -86,6 +89,12 @@ step-ReturnValue known gives value = statements.fold-ReturnValue Step (step_laye
 pub step-ReturnCall : (known : List Signature) (gives : CResult) (callee : Name) (arguments : List CExpr) → step known gives (ReturnCall callee arguments) ≡ record { behind = λ s. kept_if (not (is_void gives) && is_value (call_gives known s callee arguments)) s }
 step-ReturnCall known gives callee arguments = statements.fold-ReturnCall Step (step_layer known gives) callee arguments
 
+pub step-Goto : (known : List Signature) (gives : CResult) (label : Name) → step known gives (Goto label) ≡ record { behind = Some }
+step-Goto known gives label = statements.fold-Goto Step (step_layer known gives) label
+
+pub step-Label : (known : List Signature) (gives : CResult) (name : Name) → step known gives (Label name) ≡ record { behind = Some }
+step-Label known gives name = statements.fold-Label Step (step_layer known gives) name
+
 pub step-Block : (known : List Signature) (gives : CResult) (body : List CStmt) → step known gives (Block body) ≡ record { behind = λ s. kept_if (is_block (map (step known gives) body) s) s }
 step-Block known gives body = statements.fold-Block Step (step_layer known gives) body
 
@@ -98,7 +107,7 @@ step-If known gives test then_body = statements.fold-If Step (step_layer known g
 pub step-IfElse : (known : List Signature) (gives : CResult) (test : CExpr) (then_body else_body : List CStmt) → step known gives (IfElse test then_body else_body) ≡ record { behind = λ s. kept_if (is_number (type_of s test) && is_block (map (step known gives) then_body) s && is_block (map (step known gives) else_body) s) s }
 step-IfElse known gives test then_body else_body = statements.fold-IfElse Step (step_layer known gives) test then_body else_body
 
-pub ruleset links = (type_of-Variable, type_of-Index, type_of-Constant, type_of-Greatest, type_of-Least, type_of-Paren, type_of-Negate, type_of-Not, type_of-Binary, type_of-Cast, type_of-ToInt, type_of-Address, type_of-Literal, step-Declare, step-DeclareArray, step-DeclareValue, step-DeclarePointer, step-DeclareCall, step-Assign, step-AssignCall, step-Call, step-Return, step-ReturnValue, step-ReturnCall, step-Block, step-While, step-If, step-IfElse)
+pub ruleset links = (type_of-Variable, type_of-Index, type_of-Member, type_of-Constant, type_of-Greatest, type_of-Least, type_of-Paren, type_of-Negate, type_of-Not, type_of-Binary, type_of-Cast, type_of-ToInt, type_of-Address, type_of-Literal, step-Declare, step-DeclareArray, step-DeclareValue, step-DeclarePointer, step-DeclareCall, step-Assign, step-AssignCall, step-Call, step-Return, step-ReturnValue, step-ReturnCall, step-Goto, step-Label, step-Block, step-While, step-If, step-IfElse)
 
 pub calls_only-Declare : (test : List ℕ → Bool) (kind : CType) (name : Name) → calls_only test (Declare kind name) ≡ true
 calls_only-Declare test kind name = statements.fold-Declare Bool (calls_layer test) kind name
@@ -133,6 +142,12 @@ calls_only-ReturnValue test value = statements.fold-ReturnValue Bool (calls_laye
 pub calls_only-ReturnCall : (test : List ℕ → Bool) (callee : Name) (arguments : List CExpr) → calls_only test (ReturnCall callee arguments) ≡ test callee
 calls_only-ReturnCall test callee arguments = statements.fold-ReturnCall Bool (calls_layer test) callee arguments
 
+pub calls_only-Goto : (test : List ℕ → Bool) (label : Name) → calls_only test (Goto label) ≡ true
+calls_only-Goto test label = statements.fold-Goto Bool (calls_layer test) label
+
+pub calls_only-Label : (test : List ℕ → Bool) (name : Name) → calls_only test (Label name) ≡ true
+calls_only-Label test name = statements.fold-Label Bool (calls_layer test) name
+
 pub calls_only-Block : (test : List ℕ → Bool) (body : List CStmt) → calls_only test (Block body) ≡ all_do (map (calls_only test) body)
 calls_only-Block test body = statements.fold-Block Bool (calls_layer test) body
 
@@ -145,4 +160,4 @@ calls_only-If test condition then_body = statements.fold-If Bool (calls_layer te
 pub calls_only-IfElse : (test : List ℕ → Bool) (condition : CExpr) (then_body else_body : List CStmt) → calls_only test (IfElse condition then_body else_body) ≡ all_do (map (calls_only test) then_body) && all_do (map (calls_only test) else_body)
 calls_only-IfElse test condition then_body else_body = statements.fold-IfElse Bool (calls_layer test) condition then_body else_body
 
-pub ruleset callings = (calls_only-Declare, calls_only-DeclareArray, calls_only-DeclareValue, calls_only-DeclarePointer, calls_only-DeclareCall, calls_only-Assign, calls_only-AssignCall, calls_only-Call, calls_only-Return, calls_only-ReturnValue, calls_only-ReturnCall, calls_only-Block, calls_only-While, calls_only-If, calls_only-IfElse)
+pub ruleset callings = (calls_only-Declare, calls_only-DeclareArray, calls_only-DeclareValue, calls_only-DeclarePointer, calls_only-DeclareCall, calls_only-Assign, calls_only-AssignCall, calls_only-Call, calls_only-Return, calls_only-ReturnValue, calls_only-ReturnCall, calls_only-Goto, calls_only-Label, calls_only-Block, calls_only-While, calls_only-If, calls_only-IfElse)

@@ -16,8 +16,8 @@ use Rattle.c_nodes.specs.declared.tree.CBinary.TheVariants.{Add, Subtract, Multi
 use Rattle.c_nodes.specs.declared.tree.CExpr.TheVariants.{Variable, Constant, Greatest, Least, Paren, Binary}
 use Rattle.c_nodes.specs.declared.tree.CStmt.TheVariants.{Assign, DeclareValue, ReturnValue, If, IfElse}
 use Rattle.c_nodes.specs.CValues.{Width, W32, W64, Local, Number, fits, truth, greatest64, least64}
-use Rattle.c_nodes.specs.CState.{Cells, Frame, State}
-use Rattle.c_nodes.specs.CMeaning.{reading, Element, block, Calls, Doing, Procedure, Returned, stored_in, call, on_procedure, calls_of, statement, statements}
+use Rattle.c_nodes.specs.CState.{Around, Cells, Frame, State}
+use Rattle.c_nodes.specs.CMeaning.{reading, Element, block, Calls, Doing, Procedure, Returned, stored_in, call, on_procedure, calls_of, clause, statement, statements}
 use Rattle.c_nodes.specs.HelperLaws.{HasPrelude, overflows, value_or_overflow, Combines}
 use Rattle.c_nodes.proofs.CExprs.{exprs}
 use Rattle.c_nodes.proofs.CRuns.{run_declare_value, run_assign, run_return, run_if_not, if_so, if_then, if_else, run_block, stop_block}
@@ -29,8 +29,8 @@ use Rattle.c_nodes.proofs.Products.{bad_exactly, greatest_over, greatest_under, 
 abbrev sub_test : CExpr
 sub_test = Binary Or (Paren (Binary And (Paren (Binary Less (Variable (codes "b")) (Constant 0))) (Paren (Binary Less (Paren (Binary Add Greatest (Variable (codes "b")))) (Variable (codes "a")))))) (Paren (Binary And (Paren (Binary Less (Constant 0) (Variable (codes "b")))) (Paren (Binary Less (Variable (codes "a")) (Paren (Binary Add Least (Variable (codes "b"))))))))
 
-module _ (a b : ℤ) (callers : List Frame) (input : List ℕ) (fa : fits W64 a ≡ true) (fb : fits W64 b ≡ true) where
-  sub_up : (x : Bool) → int_lt (greatest64 +ℤ b) a ≡ x → int_lt (pos 0) b ≡ false → int_lt b (pos 0) ≡ true → (reading sub_test).value (two_state a b callers input) ≡ Some (truth (not (fits W64 (a -ℤ b))))
+module _ (a b : ℤ) (callers : List Frame) (around : Around) (fa : fits W64 a ≡ true) (fb : fits W64 b ≡ true) where
+  sub_up : (x : Bool) → int_lt (greatest64 +ℤ b) a ≡ x → int_lt (pos 0) b ≡ false → int_lt b (pos 0) ≡ true → (reading sub_test).value (two_state a b callers around) ≡ Some (truth (not (fits W64 (a -ℤ b))))
   sub_up true e p q =
       let room : fits W64 (greatest64 +ℤ b) ≡ true = grind (arith, ints) in
       let no : fits W64 (a -ℤ b) ≡ false = grind (arith, ints) in
@@ -40,7 +40,7 @@ module _ (a b : ℤ) (callers : List Frame) (input : List ℕ) (fa : fits W64 a 
       let yes : fits W64 (a -ℤ b) ≡ true = grind (arith, ints) in
       simp (exprs, p, q, room, e, yes) refl
 
-  sub_down : (x : Bool) → int_lt a (least64 +ℤ b) ≡ x → int_lt (pos 0) b ≡ true → int_lt b (pos 0) ≡ false → (reading sub_test).value (two_state a b callers input) ≡ Some (truth (not (fits W64 (a -ℤ b))))
+  sub_down : (x : Bool) → int_lt a (least64 +ℤ b) ≡ x → int_lt (pos 0) b ≡ true → int_lt b (pos 0) ≡ false → (reading sub_test).value (two_state a b callers around) ≡ Some (truth (not (fits W64 (a -ℤ b))))
   sub_down true e p q =
       let room : fits W64 (least64 +ℤ b) ≡ true = grind (arith, ints) in
       let no : fits W64 (a -ℤ b) ≡ false = grind (arith, ints) in
@@ -50,18 +50,18 @@ module _ (a b : ℤ) (callers : List Frame) (input : List ℕ) (fa : fits W64 a 
       let yes : fits W64 (a -ℤ b) ≡ true = grind (arith, ints) in
       simp (exprs, p, q, room, e, yes) refl
 
-  sub_tests : (p q : Bool) → int_lt (pos 0) b ≡ p → int_lt b (pos 0) ≡ q → (reading sub_test).value (two_state a b callers input) ≡ Some (truth (not (fits W64 (a -ℤ b))))
+  sub_tests : (p q : Bool) → int_lt (pos 0) b ≡ p → int_lt b (pos 0) ≡ q → (reading sub_test).value (two_state a b callers around) ≡ Some (truth (not (fits W64 (a -ℤ b))))
   sub_tests true true e f = absurd (grind (arith, ints))
   sub_tests true false e f = sub_down (int_lt a (least64 +ℤ b)) refl e f
   sub_tests false true e f = sub_up (int_lt (greatest64 +ℤ b) a) refl e f
   sub_tests false false e f = let yes : fits W64 (a -ℤ b) ≡ true = grind (arith, ints) in simp (exprs, e, f, yes) refl
 
 pub sub_law : Combines (codes "lf_sub") (λ a b. a -ℤ b)
-sub_law = combines (codes "lf_sub") sub_test (Binary Subtract (Variable (codes "a")) (Variable (codes "b"))) (λ a b. a -ℤ b) (λ file rest. refl) (λ files n d file vs. refl) (λ a b callers input fa fb. sub_tests a b callers input fa fb (int_lt (pos 0) b) (int_lt b (pos 0)) refl refl) (λ a b callers input yes. simp (exprs, yes) refl)
+sub_law = combines (codes "lf_sub") sub_test (Binary Subtract (Variable (codes "a")) (Variable (codes "b"))) (λ a b. a -ℤ b) (λ file rest. refl) (λ files n d file vs. refl) (λ a b callers around fa fb. sub_tests a b callers around fa fb (int_lt (pos 0) b) (int_lt b (pos 0)) refl refl) (λ a b callers around yes. simp (exprs, yes) refl)
 
 -- `lf_mul`: with the variable `bad`
-abbrev mul_state : ℤ → ℤ → ℤ → List Frame → List ℕ → State
-mul_state a b c callers input = record { here = record { next = 3; names = record { name = codes "bad"; id = 2; slot = Cells Int64 false (Some c ∷ []) } ∷ (two_frame a b).names }; callers = callers; input = input }
+abbrev mul_state : ℤ → ℤ → ℤ → List Frame → Around → State
+mul_state a b c callers around = record { here = record { next = 3; names = record { name = codes "bad"; id = 2; slot = Cells Int64 false (Some c ∷ []) } ∷ (two_frame a b).names }; callers = callers; around = around }
 
 abbrev bit : Bool → ℤ
 bit true = pos 1
@@ -100,22 +100,22 @@ when_under = IfElse (zero_under B) (set_bad right_over ∷ []) (If (Binary Less 
 abbrev decides : CStmt
 decides = IfElse (zero_under A) (when_over ∷ []) (when_under ∷ [])
 
-module _ (n : ℕ) (calls : Calls) (a b : ℤ) (callers : List Frame) (input : List ℕ) (w : Written) where
+module _ (n : ℕ) (calls : Calls) (a b : ℤ) (callers : List Frame) (around : Around) (w : Written) where
   abbrev start : State
-  start = mul_state a b (pos 0) callers input
+  start = mul_state a b (pos 0) callers around
 
   abbrev mul_with : Bool → State
-  mul_with t = mul_state a b (bit t) callers input
+  mul_with t = mul_state a b (bit t) callers around
 
   store_bit : (t : Bool) → stored_in (Element (Local 0 2) 0) (truth t) start ≡ Some (mul_with t)
   store_bit true = refl
   store_bit false = refl
 
   -- one statement in a block
-  lone : (s : CStmt) (t : Bool) → statement n calls s start w ≡ Going None (mul_with t) w → block (map (statement n calls) (s ∷ [])) start w ≡ Going None (mul_with t) w
+  lone : (s : CStmt) (t : Bool) → statement n calls s start w ≡ Going None (mul_with t) w → block (map (clause n calls) (s ∷ [])) start w ≡ Going None (mul_with t) w
   lone s t h = run_block n calls (s ∷ []) None start (mul_with t) w w (order_next (statement n calls s) [] start w (mul_with t) w h)
 
-  sets : (e : CExpr) (t : Bool) → (reading e).value start ≡ Some (truth t) → block (map (statement n calls) (set_bad e ∷ [])) start w ≡ Going None (mul_with t) w
+  sets : (e : CExpr) (t : Bool) → (reading e).value start ≡ Some (truth t) → block (map (clause n calls) (set_bad e ∷ [])) start w ≡ Going None (mul_with t) w
   sets e t h = lone (set_bad e) t (run_assign n calls (Variable (codes "bad")) e (truth t) (Element (Local 0 2) 0) start (mul_with t) w h (simp exprs refl) (store_bit t))
 
   over : (q : Bool) → int_lt (pos 0) a ≡ true → int_lt (pos 0) b ≡ q → statement n calls when_over start w ≡ Going None (mul_with (if q then int_lt (int_div greatest64 b) a else int_lt b (int_div least64 a))) w
@@ -163,10 +163,10 @@ module _ (files : List CFile) (file : ℕ) (h : HasPrelude files file) (n d : �
   doing = statement n calls
 
   abbrev inside : State
-  inside = two_state a b (s.here ∷ s.callers) s.input
+  inside = two_state a b (s.here ∷ s.callers) s.around
 
   abbrev at : Bool → State
-  at t = mul_state a b (bit t) (s.here ∷ s.callers) s.input
+  at t = mul_state a b (bit t) (s.here ∷ s.callers) s.around
 
   begins : doing (DeclareValue Int64 (codes "bad") (Constant 0)) inside w ≡ Going None (at false) w
   begins = run_declare_value n calls Int64 (codes "bad") (Constant 0) (Number W32 (pos 0)) (Element (Local 0 2) 0) inside (at false) w (simp exprs refl) refl refl
@@ -174,7 +174,7 @@ module _ (files : List CFile) (file : ℕ) (h : HasPrelude files file) (n d : �
   body_runs : (t : Bool) → fits W64 (a *ℤ b) ≡ t → statements n calls mul_body inside w ≡ statements n calls (If (Variable (codes "bad")) over_call ∷ ReturnValue (Binary Multiply A B) ∷ []) (at (not t)) w
   body_runs t e =
       order_next (doing (DeclareValue Int64 (codes "bad") (Constant 0))) (map doing (decides ∷ If (Variable (codes "bad")) over_call ∷ ReturnValue (Binary Multiply A B) ∷ [])) inside w (at false) w begins
-      ∙ order_next (doing decides) (map doing (If (Variable (codes "bad")) over_call ∷ ReturnValue (Binary Multiply A B) ∷ [])) (at false) w (at (not t)) w (decides_bad n calls a b (s.here ∷ s.callers) s.input w t e)
+      ∙ order_next (doing decides) (map doing (If (Variable (codes "bad")) over_call ∷ ReturnValue (Binary Multiply A B) ∷ [])) (at false) w (at (not t)) w (decides_bad n calls a b (s.here ∷ s.callers) s.around w t e)
 
   abbrev procedure : Procedure
   procedure = record { file = file; result = result.Int64; parameters = parameter.Value Int64 (codes "a") ∷ parameter.Value Int64 (codes "b") ∷ []; body = mul_body }

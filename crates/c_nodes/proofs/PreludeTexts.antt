@@ -10,7 +10,7 @@ use Rattle.c_nodes.specs.Text.{headers_text, item_text, item_texts, file_text}
 use Rattle.c_nodes.specs.Grammar.{is_item, is_external, file_with, IsGrammatical, Spells}
 use Rattle.c_nodes.specs.Prelude.{prelude_items, prelude_file}
 use Rattle.c_nodes.specs.PreludeText.{prelude_text}
-use Rattle.c_nodes.proofs.GrammarShapes.{standings}
+use Rattle.c_nodes.proofs.GrammarShapes.{standings, marks}
 use Rattle.c_nodes.proofs.Texts.{shapes}
 
 pub file_text-prelude_file : file_text prelude_file ≡ prelude_text
@@ -18,7 +18,7 @@ unfolding joined digits
 file_text-prelude_file = simp shapes refl
 
 pub prelude_is_right : list_all is_item prelude_items ≡ true
-prelude_is_right = simp standings refl
+prelude_is_right = simp (standings, marks) refl
 
 pub prelude_spelled : Spells prelude_text prelude_file
 prelude_spelled = record {

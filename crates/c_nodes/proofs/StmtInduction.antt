@@ -5,7 +5,7 @@ use Rattle.lf_base.specs.declared.name.Name.{Name}
 use Rattle.c_nodes.specs.declared.tree.CType.{CType}
 use Rattle.c_nodes.specs.declared.tree.CExpr.{CExpr}
 use Rattle.c_nodes.specs.declared.tree.CStmt.{CStmt, CStmt-F, map-CStmt, roll-CStmt, ind-CStmt, fold-CStmt, fold-roll-CStmt}
-use Rattle.c_nodes.specs.declared.tree.CStmt.TheVariants.{Declare, DeclareArray, DeclareValue, DeclarePointer, DeclareCall, Assign, AssignCall, Call, Return, ReturnValue, ReturnCall, Block, While, If, IfElse, rolls-Declare, rolls-DeclareArray, rolls-DeclareValue, rolls-DeclarePointer, rolls-DeclareCall, rolls-Assign, rolls-AssignCall, rolls-Call, rolls-Return, rolls-ReturnValue, rolls-ReturnCall, rolls-Block, rolls-While, rolls-If, rolls-IfElse}
+use Rattle.c_nodes.specs.declared.tree.CStmt.TheVariants.{Declare, DeclareArray, DeclareValue, DeclarePointer, DeclareCall, Assign, AssignCall, Call, Return, ReturnValue, ReturnCall, Goto, Label, Block, While, If, IfElse, rolls-Declare, rolls-DeclareArray, rolls-DeclareValue, rolls-DeclarePointer, rolls-DeclareCall, rolls-Assign, rolls-AssignCall, rolls-Call, rolls-Return, rolls-ReturnValue, rolls-ReturnCall, rolls-Goto, rolls-Label, rolls-Block, rolls-While, rolls-If, rolls-IfElse}
 
 -- what holds of each shape, if it holds of its parts
 pub record Cases (P : CStmt → Type 0) : Type 0 where
@@ -20,6 +20,8 @@ pub record Cases (P : CStmt → Type 0) : Type 0 where
   pub return : P Return
   pub return_value : (value : CExpr) → P (ReturnValue value)
   pub return_call : (callee : Name) (arguments : List CExpr) → P (ReturnCall callee arguments)
+  pub goto : (label : Name) → P (Goto label)
+  pub label : (name : Name) → P (Label name)
   pub block : (body : List CStmt) → AllByRecursion P body → P (Block body)
   pub while : (test : CExpr) (body : List CStmt) → AllByRecursion P body → P (While test body)
   pub «if» : (test : CExpr) (then_body : List CStmt) → AllByRecursion P then_body → P (If test then_body)
@@ -47,6 +49,8 @@ layer P c (CStmt-F.Call callee arguments) = subst P (sym (rolls-Call callee argu
 layer P c CStmt-F.Return = subst P (sym rolls-Return) c.return
 layer P c (CStmt-F.ReturnValue value) = subst P (sym (rolls-ReturnValue value)) (c.return_value value)
 layer P c (CStmt-F.ReturnCall callee arguments) = subst P (sym (rolls-ReturnCall callee arguments)) (c.return_call callee arguments)
+layer P c (CStmt-F.Goto label) = subst P (sym (rolls-Goto label)) (c.goto label)
+layer P c (CStmt-F.Label name) = subst P (sym (rolls-Label name)) (c.label name)
 layer P c (CStmt-F.Block body) = subst P (sym (rolls-Block (map (bare P) body))) (c.block (map (bare P) body) (each P body))
 layer P c (CStmt-F.While test body) = subst P (sym (rolls-While test (map (bare P) body))) (c.while test (map (bare P) body) (each P body))
 layer P c (CStmt-F.If test then_body) = subst P (sym (rolls-If test (map (bare P) then_body))) (c.if test (map (bare P) then_body) (each P then_body))
@@ -92,6 +96,12 @@ module _ (A : Type 0) (step : CStmt-F A → A) where
 
   pub fold-ReturnCall : (callee : Name) (arguments : List CExpr) → f (ReturnCall callee arguments) ≡ step (CStmt-F.ReturnCall callee arguments)
   fold-ReturnCall callee arguments = ap f (sym (rolls-ReturnCall callee arguments)) ∙ fold-roll-CStmt A step (CStmt-F.ReturnCall callee arguments)
+
+  pub fold-Goto : (label : Name) → f (Goto label) ≡ step (CStmt-F.Goto label)
+  fold-Goto label = ap f (sym (rolls-Goto label)) ∙ fold-roll-CStmt A step (CStmt-F.Goto label)
+
+  pub fold-Label : (name : Name) → f (Label name) ≡ step (CStmt-F.Label name)
+  fold-Label name = ap f (sym (rolls-Label name)) ∙ fold-roll-CStmt A step (CStmt-F.Label name)
 
   pub fold-Block : (body : List CStmt) → f (Block body) ≡ step (CStmt-F.Block (map f body))
   fold-Block body = ap f (sym (rolls-Block body)) ∙ fold-roll-CStmt A step (CStmt-F.Block body)

@@ -8,10 +8,10 @@ use Rattle.lf_base.specs.declared.name.Name.{Name}
 use Rattle.c_nodes.specs.declared.tree.CBinary.{CBinary}
 use Rattle.c_nodes.specs.declared.tree.CType.{CType}
 use Rattle.c_nodes.specs.declared.tree.CExpr.{CExpr}
-use Rattle.c_nodes.specs.declared.tree.CExpr.TheVariants.{Variable, Index, Constant, Greatest, Least, Paren, Negate, Not, Binary, Cast, ToInt, Address, Literal}
+use Rattle.c_nodes.specs.declared.tree.CExpr.TheVariants.{Variable, Index, Member, Constant, Greatest, Least, Paren, Negate, Not, Binary, Cast, ToInt, Address, Literal}
 use Rattle.c_nodes.specs.declared.tree.CStmt.{CStmt}
-use Rattle.c_nodes.specs.declared.tree.CStmt.TheVariants.{Declare, DeclareArray, DeclareValue, DeclarePointer, DeclareCall, Assign, AssignCall, Call, Return, ReturnValue, ReturnCall, Block, While, If, IfElse}
-use Rattle.c_nodes.specs.Text.{operator_text, constant_text, literal_text, subscript_text, cast_text, expr_layer, expr_text, array_text, returned_text, returned_call_text, plain_text, initialized_text, initialized_pointer_text, initialized_by_text, assigned_text, assigned_by_text, called_text, opened_text, closed_text, guarded_text, else_text, stmt_layer, stmt_text, stmt_texts}
+use Rattle.c_nodes.specs.declared.tree.CStmt.TheVariants.{Declare, DeclareArray, DeclareValue, DeclarePointer, DeclareCall, Assign, AssignCall, Call, Return, ReturnValue, ReturnCall, Goto, Label, Block, While, If, IfElse}
+use Rattle.c_nodes.specs.Text.{operator_text, constant_text, literal_text, subscript_text, member_text, cast_text, expr_layer, expr_text, array_text, returned_text, returned_call_text, plain_text, initialized_text, initialized_pointer_text, initialized_by_text, assigned_text, assigned_by_text, called_text, goto_text, label_text, opened_text, closed_text, guarded_text, else_text, stmt_layer, stmt_text, stmt_texts}
 use Rattle.c_nodes.proofs.ExprInduction as expressions
 use Rattle.c_nodes.proofs.StmtInduction as statements
 
@@ -20,6 +20,9 @@ expr_text-Variable name = expressions.fold-Variable (List ℕ) expr_layer name
 
 pub expr_text-Index : (base : CExpr) (subscript : CExpr) → expr_text (Index base subscript) ≡ joined (expr_text base ∷ subscript_text (expr_text subscript) ∷ [])
 expr_text-Index base subscript = expressions.fold-Index (List ℕ) expr_layer base subscript
+
+pub expr_text-Member : (base : CExpr) (name : Name) → expr_text (Member base name) ≡ joined (expr_text base ∷ member_text name ∷ [])
+expr_text-Member base name = expressions.fold-Member (List ℕ) expr_layer base name
 
 pub expr_text-Constant : (value : ℕ) → expr_text (Constant value) ≡ constant_text value
 expr_text-Constant value = expressions.fold-Constant (List ℕ) expr_layer value
@@ -87,6 +90,12 @@ stmt_text-ReturnValue value = statements.fold-ReturnValue (List ℕ) stmt_layer 
 pub stmt_text-ReturnCall : (callee : Name) (arguments : List CExpr) → stmt_text (ReturnCall callee arguments) ≡ returned_call_text callee arguments
 stmt_text-ReturnCall callee arguments = statements.fold-ReturnCall (List ℕ) stmt_layer callee arguments
 
+pub stmt_text-Goto : (label : Name) → stmt_text (Goto label) ≡ goto_text label
+stmt_text-Goto label = statements.fold-Goto (List ℕ) stmt_layer label
+
+pub stmt_text-Label : (name : Name) → stmt_text (Label name) ≡ label_text name
+stmt_text-Label name = statements.fold-Label (List ℕ) stmt_layer name
+
 pub stmt_text-Block : (body : List CStmt) → stmt_text (Block body) ≡ joined (codes "{\n" ∷ closed_text (stmt_texts body) ∷ [])
 stmt_text-Block body = statements.fold-Block (List ℕ) stmt_layer body
 
@@ -99,7 +108,7 @@ stmt_text-If test then_body = statements.fold-If (List ℕ) stmt_layer test then
 pub stmt_text-IfElse : (test : CExpr) (then_body : List CStmt) (else_body : List CStmt) → stmt_text (IfElse test then_body else_body) ≡ joined (opened_text (codes "if (") test ∷ joined (stmt_texts then_body) ∷ else_text (stmt_texts else_body) ∷ [])
 stmt_text-IfElse test then_body else_body = statements.fold-IfElse (List ℕ) stmt_layer test then_body else_body
 
-pub ruleset shapes = (expr_text-Variable, expr_text-Index, expr_text-Constant, expr_text-Greatest, expr_text-Least, expr_text-Paren, expr_text-Negate, expr_text-Not, expr_text-Binary, expr_text-Cast, expr_text-ToInt, expr_text-Address, expr_text-Literal, stmt_text-Declare, stmt_text-DeclareArray, stmt_text-DeclareValue, stmt_text-DeclarePointer, stmt_text-DeclareCall, stmt_text-Assign, stmt_text-AssignCall, stmt_text-Call, stmt_text-Return, stmt_text-ReturnValue, stmt_text-ReturnCall, stmt_text-Block, stmt_text-While, stmt_text-If, stmt_text-IfElse)
+pub ruleset shapes = (expr_text-Variable, expr_text-Index, expr_text-Member, expr_text-Constant, expr_text-Greatest, expr_text-Least, expr_text-Paren, expr_text-Negate, expr_text-Not, expr_text-Binary, expr_text-Cast, expr_text-ToInt, expr_text-Address, expr_text-Literal, stmt_text-Declare, stmt_text-DeclareArray, stmt_text-DeclareValue, stmt_text-DeclarePointer, stmt_text-DeclareCall, stmt_text-Assign, stmt_text-AssignCall, stmt_text-Call, stmt_text-Return, stmt_text-ReturnValue, stmt_text-ReturnCall, stmt_text-Goto, stmt_text-Label, stmt_text-Block, stmt_text-While, stmt_text-If, stmt_text-IfElse)
 
 pub ruleset texts = (chains, shapes)
 

@@ -16,8 +16,8 @@ use Rattle.c_nodes.specs.declared.tree.CBinary.TheVariants.{Add, Differ}
 use Rattle.c_nodes.specs.declared.tree.CExpr.TheVariants.{Variable, Index, Constant, Paren, Binary, ToInt, Literal}
 use Rattle.c_nodes.specs.declared.tree.CStmt.TheVariants.{DeclareValue, DeclarePointer, Assign, Call, While}
 use Rattle.c_nodes.specs.CValues.{Local, Text, CValue, Number, Pointer, Errors, W32, W64, truth}
-use Rattle.c_nodes.specs.CState.{Cells, Leads, Frame, State, no_names, nth, literal, element}
-use Rattle.c_nodes.specs.CMeaning.{Reading, reading, reading_layer, Designated, Element, tested, block, Calls, Procedure, Flow, call, on_procedure, statement, statements, calls_of, written_byte}
+use Rattle.c_nodes.specs.CState.{Around, Cells, Leads, Frame, State, no_names, nth, literal, element}
+use Rattle.c_nodes.specs.CMeaning.{Reading, reading, reading_layer, Designated, Element, tested, block, Calls, Procedure, Flow, call, on_procedure, clause, statement, statements, calls_of, written_byte}
 use Rattle.c_nodes.specs.CMeaning as meaning
 use Rattle.c_nodes.specs.HelperLaws.{HasPrelude}
 use Rattle.c_nodes.specs.declared.tree.CResult.TheVariants as result
@@ -51,8 +51,8 @@ nth_end [] = refl
 nth_end (x ∷ bytes) = nth_end bytes
 
 -- while the trap's text is written: `p` leads to the one text and `s` to the other
-abbrev pub trap_state : ℤ → List ℕ → List ℕ → ℤ → List Frame → List ℕ → State
-trap_state k text before i callers input = record {
+abbrev pub trap_state : ℤ → List ℕ → List ℕ → ℤ → List Frame → Around → State
+trap_state k text before i callers around = record {
   here = record {
     next = 4;
     names =
@@ -62,7 +62,7 @@ trap_state k text before i callers input = record {
         ∷ record { name = codes "k"; id = 0; slot = Cells Int64 false (Some k ∷ []) } ∷ [];
   };
   callers = callers;
-  input = input;
+  around = around;
 }
 
 abbrev char_of : List ℕ → CExpr
@@ -81,9 +81,9 @@ abbrev turn_of : List ℕ → List CStmt
 turn_of q = put_of q ∷ up ∷ []
 
 -- a loop that writes the text to which q leads
-module _ (files : List CFile) (n d file : ℕ) (k : ℤ) (text before : List ℕ) (callers : List Frame) (input : List ℕ) (q bytes : List ℕ) (small : length bytes < 1000000) (leads : (i : ℤ) → (reading (Variable q)).value (trap_state k text before i callers input) ≡ Some (Pointer (Text bytes) 0)) where
+module _ (files : List CFile) (n d file : ℕ) (k : ℤ) (text before : List ℕ) (callers : List Frame) (around : Around) (q bytes : List ℕ) (small : length bytes < 1000000) (leads : (i : ℤ) → (reading (Variable q)).value (trap_state k text before i callers around) ≡ Some (Pointer (Text bytes) 0)) where
   abbrev at : ℕ → State
-  at i = trap_state k text before (pos i) callers input
+  at i = trap_state k text before (pos i) callers around
 
   abbrev calls : Calls
   calls = calls_of files n d file
@@ -116,25 +116,25 @@ module _ (files : List CFile) (n d file : ℕ) (k : ℤ) (text before : List ℕ
       (simp (fold-Variable Reading reading_layer) refl)
       (simp (fits64_nat (i + 1) (omega arith)) refl)
 
-  turns : (b i : ℕ) → b < 256 → i < 1000000 → nth i (literal bytes) ≡ Some (Some (pos b)) → (w : Written) → block (map (statement n calls) (turn_of q)) (at i) w ≡ Going None (at (i + 1)) (record { out = w.out; err = w.err ++ b ∷ [] })
+  turns : (b i : ℕ) → b < 256 → i < 1000000 → nth i (literal bytes) ≡ Some (Some (pos b)) → (w : Written) → block (map (clause n calls) (turn_of q)) (at i) w ≡ Going None (at (i + 1)) (record { out = w.out; err = w.err ++ b ∷ [] })
   turns b i lt li h w =
       let v : Written = record { out = w.out; err = w.err ++ b ∷ [] } in
       run_block n calls (turn_of q) None (at i) (at (i + 1)) w v
       (order_next (statement n calls (put_of q)) (map (statement n calls) (up ∷ [])) (at i) w (at i) v (puts b i lt h w)
       ∙ order_next (statement n calls up) [] (at i) v (at (i + 1)) v (ups i li v))
 
-  further : (m : ℕ) (rest front : List ℕ) (i : ℕ) → bytes ≡ front ++ rest → i ≡ length front → length rest ≤ m → IsText rest → (w : Written) → iterate m test (block (map (statement n calls) (turn_of q))) (at i) w ≡ Going None (at (length bytes)) (record { out = w.out; err = w.err ++ rest })
+  further : (m : ℕ) (rest front : List ℕ) (i : ℕ) → bytes ≡ front ++ rest → i ≡ length front → length rest ≤ m → IsText rest → (w : Written) → iterate m test (block (map (clause n calls) (turn_of q))) (at i) w ≡ Going None (at (length bytes)) (record { out = w.out; err = w.err ++ rest })
   further m [] front i e p le t w =
       let all : i ≡ length bytes = p ∙ ap length (sym (append-nil front) ∙ sym e) in
-      subst (λ j. iterate m test (block (map (statement n calls) (turn_of q))) (at j) w ≡ Going None (at (length bytes)) (record { out = w.out; err = w.err ++ [] })) (sym all)
-      (iterate_done test (block (map (statement n calls) (turn_of q))) (at (length bytes)) w m (at (length bytes)) w (ends w) ∙ ap (λ x. Going None (at (length bytes)) (record { out = w.out; err = x })) (sym (append-nil w.err)))
+      subst (λ j. iterate m test (block (map (clause n calls) (turn_of q))) (at j) w ≡ Going None (at (length bytes)) (record { out = w.out; err = w.err ++ [] })) (sym all)
+      (iterate_done test (block (map (clause n calls) (turn_of q))) (at (length bytes)) w m (at (length bytes)) w (ends w) ∙ ap (λ x. Going None (at (length bytes)) (record { out = w.out; err = x })) (sym (append-nil w.err)))
   further zero (b ∷ rest) front i e p le t w = absurd (omega arith)
   further (suc m) (b ∷ rest) front i e p le t w =
       let here : nth i (literal bytes) ≡ Some (Some (pos b)) = ap (λ j. nth j (literal bytes)) p ∙ ap (λ l. nth (length front) (literal l)) e ∙ nth_literal front rest b in
       let v : Written = record { out = w.out; err = w.err ++ b ∷ [] } in
       let long : i < 1000000 = omega (arith, ap length e, length-append front (b ∷ rest)) in
       let goes : test (at i) w ≡ Going true (at i) w = run_tested (test_of q) (at i) w (truth (not (int_eq (pos b) (pos 0)))) true (test_is i b here) (holds_truth (not (int_eq (pos b) (pos 0))) ∙ ap (λ x. Some (not x)) (not_zero b t.0.0)) in
-      iterate_turn test (block (map (statement n calls) (turn_of q))) (at i) w m (at i) (at (i + 1)) w v goes (turns b i t.0.1 long here w)
+      iterate_turn test (block (map (clause n calls) (turn_of q))) (at i) w m (at i) (at (i + 1)) w v goes (turns b i t.0.1 long here w)
       ∙ further m rest (front ++ b ∷ []) (i + 1) (e ∙ sym (append_assoc front (b ∷ []) rest)) (omega (arith, p, length-append front (b ∷ []))) (omega arith) t.1 v
       ∙ ap (λ x. Going None (at (length bytes)) (record { out = w.out; err = x })) (append_assoc w.err (b ∷ []) rest)
 
@@ -167,7 +167,7 @@ trap_frame k text = record {
       ∷ record { name = codes "k"; id = 0; slot = Cells Int64 false (Some k ∷ []) } ∷ [];
 }
 
-module _ (files : List CFile) (n d file : ℕ) (k : ℕ) (text : List ℕ) (callers : List Frame) (input : List ℕ) (w : Written) (few : k < 100) (short : length text < 1000000) (plain : IsText text) (turns9 : 9 ≤ n) (turnst : length text ≤ n) where
+module _ (files : List CFile) (n d file : ℕ) (k : ℕ) (text : List ℕ) (callers : List Frame) (around : Around) (w : Written) (few : k < 100) (short : length text < 1000000) (plain : IsText text) (turns9 : 9 ≤ n) (turnst : length text ≤ n) where
   abbrev steps : Calls
   steps = calls_of files n d file
 
@@ -175,13 +175,13 @@ module _ (files : List CFile) (n d file : ℕ) (k : ℕ) (text : List ℕ) (call
   doing = statement n steps
 
   abbrev begun : State
-  begun = record { here = trap_frame (pos k) text; callers = callers; input = input }
+  begun = record { here = trap_frame (pos k) text; callers = callers; around = around }
 
   abbrev here : ℕ → State
-  here i = trap_state (pos k) text prefix (pos i) callers input
+  here i = trap_state (pos k) text prefix (pos i) callers around
 
   abbrev first : State
-  first = record { here = record { next = 3; names = record { name = codes "i"; id = 2; slot = Cells Int64 false (Some (pos 0) ∷ []) } ∷ (trap_frame (pos k) text).names }; callers = callers; input = input }
+  first = record { here = record { next = 3; names = record { name = codes "i"; id = 2; slot = Cells Int64 false (Some (pos 0) ∷ []) } ∷ (trap_frame (pos k) text).names }; callers = callers; around = around }
 
   step1 : doing (DeclareValue Int64 (codes "i") (Constant 0)) begun w ≡ Going None first w
   step1 = run_declare_value n steps Int64 (codes "i") (Constant 0) (Number W32 (pos 0)) (Element (Local 0 2) 0) begun first w (simp (fold-Constant Reading reading_layer) refl) refl refl
@@ -193,7 +193,7 @@ module _ (files : List CFile) (n d file : ℕ) (k : ℕ) (text : List ℕ) (call
   w1 = record { out = w.out; err = w.err ++ prefix }
 
   step3 : doing (While (test_of (codes "p")) (turn_of (codes "p"))) (here 0) w ≡ Going None (here 9) w1
-  step3 = loop_writes files n d file (pos k) text prefix callers input (codes "p") prefix (omega arith) (λ i. simp (fold-Variable Reading reading_layer) refl)
+  step3 = loop_writes files n d file (pos k) text prefix callers around (codes "p") prefix (omega arith) (λ i. simp (fold-Variable Reading reading_layer) refl)
       (plain_text prefix refl) turns9 w
 
   step4 : doing clear (here 9) w1 ≡ Going None (here 0) w1
@@ -203,7 +203,7 @@ module _ (files : List CFile) (n d file : ℕ) (k : ℕ) (text : List ℕ) (call
   w2 = record { out = w.out; err = (w.err ++ prefix) ++ text }
 
   step5 : doing (While (test_of (codes "s")) (turn_of (codes "s"))) (here 0) w1 ≡ Going None (here (length text)) w2
-  step5 = loop_writes files n d file (pos k) text prefix callers input (codes "s") text short (λ i. simp (fold-Variable Reading reading_layer) refl) plain turnst w1
+  step5 = loop_writes files n d file (pos k) text prefix callers around (codes "s") text short (λ i. simp (fold-Variable Reading reading_layer) refl) plain turnst w1
 
   abbrev w3 : Written
   w3 = record { out = w.out; err = ((w.err ++ prefix) ++ text) ++ 10 ∷ [] }
@@ -235,5 +235,5 @@ trap_law files file h n d k text few short plain turns9 turnst s w =
     let vs : List CValue = Number W32 (pos k) ∷ Pointer (Text text) 0 ∷ [] in
     let calls = calls_of files n d file in
     ap (λ o. on_procedure o (λ q. call n (calls_of files n d q.file) q vs) s w) (found files file h (codes "lf_trap") p (λ rest. refl))
-    ∙ call_stopped n calls p vs (trap_frame (pos k) text) s w (binds64 (codes "k") (parameter.Pointer Byte (codes "s") ∷ []) W32 (pos k) (Pointer (Text text) 0 ∷ []) no_names (fits64_nat k (omega arith))) (Ended (record { out = w.out; err = ((w.err ++ prefix) ++ text) ++ 10 ∷ [] }) (100 + k) None) (trap_runs files n d file k text (s.here ∷ s.callers) s.input w few short plain turns9 turnst)
+    ∙ call_stopped n calls p vs (trap_frame (pos k) text) s w (binds64 (codes "k") (parameter.Pointer Byte (codes "s") ∷ []) W32 (pos k) (Pointer (Text text) 0 ∷ []) no_names (fits64_nat k (omega arith))) (Ended (record { out = w.out; err = ((w.err ++ prefix) ++ text) ++ 10 ∷ [] }) (100 + k) None) (trap_runs files n d file k text (s.here ∷ s.callers) s.around w few short plain turns9 turnst)
     ∙ ap (λ e. Stopped (Ended (record { out = w.out; err = e }) (100 + k) None)) (append_assoc (w.err ++ prefix) text (10 ∷ []) ∙ append_assoc w.err prefix (text ++ 10 ∷ []) ∙ ap (λ l. w.err ++ l) (sym (append_assoc prefix text (10 ∷ []))))

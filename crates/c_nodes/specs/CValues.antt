@@ -6,7 +6,7 @@ use Rattle.std.specs.Int.{int_rem_euclid}
 use Rattle.std.specs.Ordering.{int_eq}
 use Rattle.std.proofs.Math.IntN.{ℤ, neg_ℤ}
 use Rattle.c_nodes.specs.declared.tree.CType.{CType}
-use Rattle.c_nodes.specs.declared.tree.CType.TheVariants.{Int64, Int32, Byte}
+use Rattle.c_nodes.specs.declared.tree.CType.TheVariants.{Int64, Int32, Byte, Struct}
 use Rattle.c_nodes.specs.declared.tree.CBinary.{CBinary}
 use Rattle.c_nodes.specs.declared.tree.CBinary.TheVariants.{Add, Subtract, Multiply, Divide, Remainder, Less, AtMost, Equal, Differ, And, Or}
 
@@ -15,17 +15,22 @@ pub data Width : Type 0 where
   W32 : Width
   W64 : Width
 
--- where a pointer leads: into an object of the function that is `up` calls above, by its number there,
--- or into a string literal, which a byte 0 closes (6.4.5)
+-- which object: one of the function that is `up` calls above, by its number there; a string literal, which a
+-- byte 0 closes (6.4.5); one outside functions, by its name; or a member of the structure that is this element
+-- of an object (6.5.2.3)
 pub data Base : Type 0 where
   Local : (up id : ℕ) → Base
   Text : (bytes : List ℕ) → Base
+  Outside : (name : List ℕ) → Base
+  Inside : (whole : Base) (offset : ℕ) (member : List ℕ) → Base
 
--- a number in the type that it has after promotion, a pointer to an element, or the stream `stderr`
+-- a number in the type that it has after promotion, a pointer to an element, the stream `stderr`, or a structure
+-- with the numbers that its members hold, in order, each of them set or not
 pub data CValue : Type 0 where
   Number : (width : Width) (value : ℤ) → CValue
   Pointer : (base : Base) (offset : ℕ) → CValue
   Errors : CValue
+  Structure : (tag : List ℕ) (cells : List (Option ℤ)) → CValue
 
 abbrev pub least32 : ℤ
 least32 = negsuc 2147483647
@@ -115,23 +120,22 @@ abbrev pub held_as : CType → ℤ → Option ℤ
 held_as Int64 z = if fits W64 z then Some z else None
 held_as Int32 z = if fits W32 z then Some z else None
 held_as Byte z = Some (int_rem_euclid z (pos 256))
+held_as (Struct tag) z = None
 
--- the type of a value that an object of this type holds, after promotion (6.3.1.1, 2)
-abbrev pub width_of : CType → Width
-width_of Int64 = W64
-width_of Int32 = W32
-width_of Byte = W32
+-- the value of a number that an object of this type holds, after promotion (6.3.1.1, 2)
+abbrev pub promoted : CType → ℤ → Option CValue
+promoted Int64 z = Some (Number W64 z)
+promoted Int32 z = Some (Number W32 z)
+promoted Byte z = Some (Number W32 z)
+promoted (Struct tag) z = None
 
-abbrev pub number_in : Width → Option ℤ → Option CValue
-number_in w None = None
-number_in w (Some z) = Some (Number w z)
-
-abbrev pub on_number : (CType → ℤ → Option ℤ) → CType → ℤ → Option CValue
-on_number f kind z = number_in (width_of kind) (f kind z)
+abbrev pub promoted_from : CType → Option ℤ → Option CValue
+promoted_from kind None = None
+promoted_from kind (Some z) = promoted kind z
 
 -- a cast (6.5.4)
 abbrev pub cast_to : CType → Option CValue → Option CValue
-cast_to kind (Some (Number w z)) = on_number held_as kind z
+cast_to kind (Some (Number w z)) = promoted_from kind (held_as kind z)
 cast_to kind v = None
 
 abbrev pub to_int : Option CValue → Option CValue

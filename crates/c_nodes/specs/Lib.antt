@@ -7,4 +7,5 @@ pub mod Linking
 pub mod Machine
 pub mod Prelude
 pub mod PreludeText
+pub mod SmallFiles
 pub mod Text

@@ -5,10 +5,13 @@ use Rattle.std.specs.Fmt.{decimal}
 use Rattle.lf_base.specs.Contents.{joined}
 use Rattle.c_nodes.specs.declared.tree.CType.{CType}
 use Rattle.c_nodes.specs.declared.tree.CType.TheVariants.{Int64, Int32, Byte}
+use Rattle.c_nodes.specs.declared.tree.CType.TheVariants as type
 use Rattle.c_nodes.specs.declared.tree.CResult.{CResult}
 use Rattle.c_nodes.specs.declared.tree.CResult.TheVariants as of_function
 use Rattle.c_nodes.specs.declared.tree.CParameter.{CParameter}
 use Rattle.c_nodes.specs.declared.tree.CParameter.TheVariants.{Value, Pointer}
+use Rattle.c_nodes.specs.declared.tree.CObject.{CObject}
+use Rattle.c_nodes.specs.declared.tree.CObject.TheVariants.{Single, Array}
 use Rattle.c_nodes.specs.declared.tree.CBinary.{CBinary}
 use Rattle.c_nodes.specs.declared.tree.CBinary.TheVariants.{Add, Subtract, Multiply, Divide, Remainder, Less, AtMost, Equal, Differ, And, Or}
 use Rattle.c_nodes.specs.declared.tree.CExpr.{CExpr}
@@ -18,13 +21,14 @@ use Rattle.c_nodes.specs.declared.tree.CStmt.{CStmt}
 use Rattle.c_nodes.specs.declared.tree.CStmt.TheOpen.{CStmt-F}
 use Rattle.c_nodes.specs.declared.tree.CStmt.TheFolds.{fold-CStmt}
 use Rattle.c_nodes.specs.declared.tree.CItem.{CItem}
-use Rattle.c_nodes.specs.declared.tree.CItem.TheVariants.{Prototype, Function}
+use Rattle.c_nodes.specs.declared.tree.CItem.TheVariants.{Struct, Object, Prototype, Function}
 use Rattle.c_nodes.specs.declared.tree.CFile.{CFile}
 
 abbrev pub type_text : CType → List ℕ
 type_text Int64 = codes "int64_t"
 type_text Int32 = codes "int32_t"
 type_text Byte = codes "unsigned char"
+type_text (type.Struct name) = joined (codes "struct " ∷ name ∷ [])
 
 abbrev pub result_text : CResult → List ℕ
 result_text of_function.Void = codes "void"
@@ -85,6 +89,9 @@ literal_text bytes = joined (codes "(unsigned char *)\"" ∷ joined (byte_texts 
 abbrev pub subscript_text : List ℕ → List ℕ
 subscript_text subscript = joined (codes "[" ∷ subscript ∷ codes "]" ∷ [])
 
+abbrev pub member_text : List ℕ → List ℕ
+member_text name = joined (codes "." ∷ name ∷ [])
+
 abbrev pub cast_text : CType → List ℕ → List ℕ
 cast_text kind operand = joined (codes "(" ∷ type_text kind ∷ codes ")" ∷ operand ∷ [])
 
@@ -92,6 +99,7 @@ cast_text kind operand = joined (codes "(" ∷ type_text kind ∷ codes ")" ∷ 
 abbrev pub expr_layer : CExpr-F (List ℕ) → List ℕ
 expr_layer (CExpr-F.Variable name) = name
 expr_layer (CExpr-F.Index base subscript) = joined (base ∷ subscript_text subscript ∷ [])
+expr_layer (CExpr-F.Member base name) = joined (base ∷ member_text name ∷ [])
 expr_layer (CExpr-F.Constant value) = constant_text value
 expr_layer CExpr-F.Greatest = codes "INT64_MAX"
 expr_layer CExpr-F.Least = codes "INT64_MIN"
@@ -157,6 +165,13 @@ assigned_by_text target callee arguments = joined (expr_text target ∷ received
 abbrev pub called_text : List ℕ → List CExpr → List ℕ
 called_text callee arguments = joined (call_text callee arguments ∷ codes ";\n" ∷ [])
 
+abbrev pub goto_text : List ℕ → List ℕ
+goto_text label = joined (codes "goto " ∷ label ∷ codes ";\n" ∷ [])
+
+-- a label before an empty statement
+abbrev pub label_text : List ℕ → List ℕ
+label_text name = joined (name ∷ codes ": ;\n" ∷ [])
+
 -- a word, a condition behind it, and the brace that opens a block
 abbrev pub opened_text : List ℕ → CExpr → List ℕ
 opened_text word test = joined (word ∷ expr_text test ∷ codes ") {\n" ∷ [])
@@ -185,6 +200,8 @@ stmt_layer (CStmt-F.Call callee arguments) = called_text callee arguments
 stmt_layer CStmt-F.Return = codes "return;\n"
 stmt_layer (CStmt-F.ReturnValue value) = returned_text value
 stmt_layer (CStmt-F.ReturnCall callee arguments) = returned_call_text callee arguments
+stmt_layer (CStmt-F.Goto label) = goto_text label
+stmt_layer (CStmt-F.Label name) = label_text name
 stmt_layer (CStmt-F.Block body) = joined (codes "{\n" ∷ closed_text body ∷ [])
 stmt_layer (CStmt-F.While test body) = guarded_text (codes "while (") test body
 stmt_layer (CStmt-F.If test then_body) = guarded_text (codes "if (") test then_body
@@ -219,7 +236,28 @@ abbrev pub static_text : Bool → List ℕ
 static_text true = codes "static "
 static_text false = joined []
 
+-- an array of constant size
+abbrev pub sized_text : CType → List ℕ → ℕ → List ℕ
+sized_text kind name size = joined (declared_text kind name ∷ codes "[" ∷ constant_text size ∷ codes "];\n" ∷ [])
+
+-- the line of a member, or of an object outside functions
+abbrev pub object_text : CObject → List ℕ
+object_text (Single kind name) = plain_text kind name
+object_text (Array kind name size) = sized_text kind name size
+
+abbrev pub object_texts : List CObject → List (List ℕ)
+object_texts = map object_text
+
+abbrev pub extern_text : Bool → List ℕ
+extern_text true = codes "extern "
+extern_text false = joined []
+
+abbrev pub structure_text : List ℕ → List CObject → List ℕ
+structure_text name members = joined (codes "struct " ∷ name ∷ codes " {\n" ∷ joined (object_texts members) ∷ codes "};\n" ∷ [])
+
 abbrev pub item_text : CItem → List ℕ
+item_text (Struct name members) = structure_text name members
+item_text (Object is_extern object) = joined (extern_text is_extern ∷ object_text object ∷ [])
 item_text (Prototype result name parameters) = joined (head_text result name parameters ∷ codes ";\n" ∷ [])
 item_text (Function is_static result name parameters body) = joined (static_text is_static ∷ head_text result name parameters ∷ codes " {\n" ∷ closed_text (stmt_texts body) ∷ [])
 

@@ -2,6 +2,7 @@
 //! prelude with which each begins, and what files that are one program do.
 #![tactic(auto)]
 
+mod expressions;
 mod helpers;
 pub mod law;
 mod machine;
@@ -13,4 +14,4 @@ mod tree;
 
 pub use helpers::prelude;
 pub use print::print_c;
-pub use tree::{CBinary, CExpr, CFile, CItem, CParameter, CResult, CStmt, CType};
+pub use tree::{CBinary, CExpr, CFile, CItem, CObject, CParameter, CResult, CStmt, CType};

@@ -2,278 +2,16 @@
 //! failure, and hands on how its own ended.
 
 ghost use Rattle.std.specs.Prelude.{[], ◌∷◌, Ok, OnOk, OnErr};
-ghost use Rattle.std.specs.Fmt.{decimal};
 ghost use Rattle.lf_base.specs.Causes.{HasCause};
 ghost use Rattle.lf_base.specs.Contents.{Appends, AppendsPart, joined};
 ghost use Rattle.lf_base.specs.Puts.{Puts, Causes};
-ghost use Rattle.c_nodes.specs.Text.{type_text, result_text, operator_text, wide_text, constant_text, byte_text, byte_texts, literal_text, behind_comma, behind_commas, listed, subscript_text, cast_text, expr_text, expr_texts, declared_text, pointer_text, call_text, stored_text, received_text, array_text, returned_text, returned_call_text, plain_text, initialized_text, initialized_pointer_text, initialized_by_text, assigned_text, assigned_by_text, called_text, opened_text, closed_text, guarded_text, else_text, stmt_text, stmt_texts, parameter_text, parameter_texts, enclosed_text, parameters_text, head_text, static_text, item_text, item_texts, file_text};
+ghost use Rattle.c_nodes.specs.Text.{behind_comma, behind_commas, listed, declared_text, pointer_text, stored_text, received_text, array_text, returned_text, returned_call_text, plain_text, initialized_text, initialized_pointer_text, initialized_by_text, assigned_text, assigned_by_text, called_text, goto_text, label_text, opened_text, closed_text, guarded_text, else_text, stmt_text, stmt_texts, parameter_text, parameter_texts, enclosed_text, parameters_text, head_text, static_text, sized_text, object_text, object_texts, extern_text, structure_text, item_text, item_texts, file_text};
 
-use crate::tree::{CBinary, CExpr, CFile, CItem, CParameter, CResult, CStmt, CType};
-use itoa::Buffer;
+use crate::expressions::{Ended, put, put_call, put_constant, put_expr, put_result, put_type};
+use crate::tree::{CExpr, CFile, CItem, CObject, CParameter, CResult, CStmt, CType};
 use lf_base::{Name, PutFault, Sink};
 
-// How the puts so far ended. After a failure nothing more is put.
-type Ended = Result<(), PutFault>;
-
-// The greatest constant that is written as its digits alone.
-const GREATEST_PLAIN: u64 = 2_147_483_647;
-
-const LITERAL_HEAD: &[u8] = b"(unsigned char *)\"";
-
 const HEADERS: &[u8] = b"#include <stdint.h>\n#include <stdio.h>\n#include <stdlib.h>\n";
-
-fn put<O: Sink>(before: Ended, out: &mut O, piece: &[u8]) -> Ended
-    ensures text { Puts before result (O.contents out.old) (O.contents out.new) piece.now }
-    ensures cause { Causes before result (O.faults out.old) (O.faults out.new) }
-    ensures keeps { O.keeps out.old out.new }
-{
-    match before {
-        Ok(()) => out.put(piece),
-        Err(fault) => Err(fault),
-    }
-}
-
-fn put_number<O: Sink>(before: Ended, out: &mut O, number: u64) -> Ended
-    ensures text { Puts before result (O.contents out.old) (O.contents out.new) (decimal number) }
-    ensures cause { Causes before result (O.faults out.old) (O.faults out.new) }
-    ensures keeps { O.keeps out.old out.new }
-{
-    let mut buffer = Buffer::new();
-    put(before, out, buffer.format(number).as_bytes())
-}
-
-#[tactic(auto, using(lf_base::proofs::Chains::chains))]
-fn put_wide<O: Sink>(before: Ended, out: &mut O, number: u64) -> Ended
-    ensures text { Puts before result (O.contents out.old) (O.contents out.new) (wide_text number) }
-    ensures cause { Causes before result (O.faults out.old) (O.faults out.new) }
-    ensures keeps { O.keeps out.old out.new }
-{
-    let ended = put(before, out, b"INT64_C(");
-    let ended = put_number(ended, out, number);
-    put(ended, out, b")")
-}
-
-fn put_constant<O: Sink>(before: Ended, out: &mut O, value: u64) -> Ended
-    ensures text { Puts before result (O.contents out.old) (O.contents out.new) (constant_text value) }
-    ensures cause { Causes before result (O.faults out.old) (O.faults out.new) }
-    ensures keeps { O.keeps out.old out.new }
-{
-    if value <= GREATEST_PLAIN {
-        put_number(before, out, value)
-    } else {
-        put_wide(before, out, value)
-    }
-}
-
-fn put_operator<O: Sink>(before: Ended, out: &mut O, operator: CBinary) -> Ended
-    ensures text { Puts before result (O.contents out.old) (O.contents out.new) (operator_text operator) }
-    ensures cause { Causes before result (O.faults out.old) (O.faults out.new) }
-    ensures keeps { O.keeps out.old out.new }
-{
-    let text: &[u8] = match operator {
-        CBinary::Add => b" + ",
-        CBinary::Subtract => b" - ",
-        CBinary::Multiply => b" * ",
-        CBinary::Divide => b" / ",
-        CBinary::Remainder => b" % ",
-        CBinary::Less => b" < ",
-        CBinary::AtMost => b" <= ",
-        CBinary::Equal => b" == ",
-        CBinary::Differ => b" != ",
-        CBinary::And => b" && ",
-        CBinary::Or => b" || ",
-    };
-    put(before, out, text)
-}
-
-fn put_type<O: Sink>(before: Ended, out: &mut O, kind: &CType) -> Ended
-    ensures text { Puts before result (O.contents out.old) (O.contents out.new) (type_text kind.now) }
-    ensures cause { Causes before result (O.faults out.old) (O.faults out.new) }
-    ensures keeps { O.keeps out.old out.new }
-{
-    match kind {
-        CType::Int64 => put(before, out, b"int64_t"),
-        CType::Int32 => put(before, out, b"int32_t"),
-        CType::Byte => put(before, out, b"unsigned char"),
-    }
-}
-
-fn put_result<O: Sink>(before: Ended, out: &mut O, result_type: &CResult) -> Ended
-    ensures text { Puts before result (O.contents out.old) (O.contents out.new) (result_text result_type.now) }
-    ensures cause { Causes before result (O.faults out.old) (O.faults out.new) }
-    ensures keeps { O.keeps out.old out.new }
-{
-    match result_type {
-        CResult::Void => put(before, out, b"void"),
-        CResult::Int64 => put(before, out, b"int64_t"),
-        CResult::Int => put(before, out, b"int"),
-    }
-}
-
-fn put_byte<O: Sink>(before: Ended, out: &mut O, byte: u8) -> Ended
-    ensures text { Puts before result (O.contents out.old) (O.contents out.new) (byte_text byte) }
-    ensures cause { Causes before result (O.faults out.old) (O.faults out.new) }
-    ensures keeps { O.keeps out.old out.new }
-{
-    let escaped = [
-        b'\\',
-        b'0' + byte / 64,
-        b'0' + byte / 8 % 8,
-        b'0' + byte % 8,
-    ];
-    match byte {
-        b'"' | b'\\' | b'?' => put(before, out, &escaped),
-        b' '..=b'~' => put(before, out, &[byte]),
-        _ => put(before, out, &escaped),
-    }
-}
-
-#[tactic(auto, using(crate::proofs::Texts::loops))]
-fn put_bytes<O: Sink>(before: Ended, out: &mut O, bytes: &[u8]) -> Ended
-    ensures text { Puts before result (O.contents out.old) (O.contents out.new) (joined (byte_texts bytes.now)) }
-    ensures cause { Causes before result (O.faults out.old) (O.faults out.new) }
-    ensures keeps { O.keeps out.old out.new }
-{
-    let mut ended = before;
-    for byte in bytes {
-        ended = put_byte(ended, out, *byte);
-    }
-    ended
-}
-
-#[tactic(auto, using(lf_base::proofs::Chains::chains))]
-fn put_literal<O: Sink>(before: Ended, out: &mut O, bytes: &[u8]) -> Ended
-    ensures text { Puts before result (O.contents out.old) (O.contents out.new) (literal_text bytes.now) }
-    ensures cause { Causes before result (O.faults out.old) (O.faults out.new) }
-    ensures keeps { O.keeps out.old out.new }
-{
-    let ended = put(before, out, LITERAL_HEAD);
-    let ended = put_bytes(ended, out, bytes);
-    put(ended, out, b"\"")
-}
-
-#[cycle(expr)]
-#[tactic(auto, using(crate::proofs::Texts::texts))]
-fn put_expr<O: Sink>(before: Ended, out: &mut O, expr: &CExpr) -> Ended
-    ensures text { Puts before result (O.contents out.old) (O.contents out.new) (expr_text expr.now) }
-    ensures cause { Causes before result (O.faults out.old) (O.faults out.new) }
-    ensures keeps { O.keeps out.old out.new }
-{
-    match expr {
-        CExpr::Variable { name } => put(before, out, name.bytes()),
-        CExpr::Index { base, subscript } => put_subscript(
-            put_expr(before, out, base.get()),
-            out,
-            subscript.get(),
-        ),
-        CExpr::Constant { value } => put_constant(before, out, *value),
-        CExpr::Greatest => put(before, out, b"INT64_MAX"),
-        CExpr::Least => put(before, out, b"INT64_MIN"),
-        CExpr::Paren { inner } => put(put_behind(before, out, b"(", inner.get()), out, b")"),
-        CExpr::Negate { operand } => put_behind(before, out, b"-", operand.get()),
-        CExpr::Not { operand } => put_behind(before, out, b"!", operand.get()),
-        CExpr::Binary {
-            operator,
-            left,
-            right,
-        } => {
-            let ended = put_expr(before, out, left.get());
-            let ended = put_operator(ended, out, *operator);
-            put_expr(ended, out, right.get())
-        }
-        CExpr::Cast { kind, operand } => put_cast(before, out, kind, operand.get()),
-        CExpr::ToInt { operand } => put_behind(before, out, b"(int)", operand.get()),
-        CExpr::Address { place } => put_behind(before, out, b"&", place.get()),
-        CExpr::Literal { bytes } => put_literal(before, out, bytes.as_slice()),
-    }
-}
-
-#[cycle(expr)]
-#[tactic(auto, using(lf_base::proofs::Chains::chains))]
-fn put_subscript<O: Sink>(before: Ended, out: &mut O, subscript: &CExpr) -> Ended
-    ensures text { Puts before result (O.contents out.old) (O.contents out.new) (subscript_text (expr_text subscript.now)) }
-    ensures cause { Causes before result (O.faults out.old) (O.faults out.new) }
-    ensures keeps { O.keeps out.old out.new }
-{
-    let ended = put(before, out, b"[");
-    let ended = put_expr(ended, out, subscript);
-    put(ended, out, b"]")
-}
-
-#[cycle(expr)]
-#[tactic(auto, using(lf_base::proofs::Chains::chains))]
-fn put_behind<O: Sink>(before: Ended, out: &mut O, word: &[u8], expr: &CExpr) -> Ended
-    ensures text { Puts before result (O.contents out.old) (O.contents out.new) (joined (word.now ∷ expr_text expr.now ∷ [])) }
-    ensures cause { Causes before result (O.faults out.old) (O.faults out.new) }
-    ensures keeps { O.keeps out.old out.new }
-{
-    let ended = put(before, out, word);
-    put_expr(ended, out, expr)
-}
-
-#[cycle(expr)]
-#[tactic(auto, using(lf_base::proofs::Chains::chains))]
-fn put_cast<O: Sink>(before: Ended, out: &mut O, kind: &CType, operand: &CExpr) -> Ended
-    ensures text { Puts before result (O.contents out.old) (O.contents out.new) (cast_text kind.now (expr_text operand.now)) }
-    ensures cause { Causes before result (O.faults out.old) (O.faults out.new) }
-    ensures keeps { O.keeps out.old out.new }
-{
-    let ended = put(before, out, b"(");
-    let ended = put_type(ended, out, kind);
-    let ended = put(ended, out, b")");
-    put_expr(ended, out, operand)
-}
-
-// An argument behind the first.
-#[tactic(auto, using(lf_base::proofs::Chains::chains))]
-fn put_argument<O: Sink>(before: Ended, out: &mut O, argument: &CExpr) -> Ended
-    ensures text { Puts before result (O.contents out.old) (O.contents out.new) (behind_comma (expr_text argument.now)) }
-    ensures cause { Causes before result (O.faults out.old) (O.faults out.new) }
-    ensures keeps { O.keeps out.old out.new }
-{
-    let ended = put(before, out, b", ");
-    put_expr(ended, out, argument)
-}
-
-#[tactic(auto, using(crate::proofs::Texts::loops))]
-fn put_more_arguments<O: Sink>(before: Ended, out: &mut O, arguments: &[CExpr]) -> Ended
-    ensures text { Puts before result (O.contents out.old) (O.contents out.new) (joined (behind_commas (expr_texts arguments.now))) }
-    ensures cause { Causes before result (O.faults out.old) (O.faults out.new) }
-    ensures keeps { O.keeps out.old out.new }
-{
-    let mut ended = before;
-    for argument in arguments {
-        ended = put_argument(ended, out, argument);
-    }
-    ended
-}
-
-#[tactic(auto, using(crate::proofs::Texts::listing))]
-fn put_arguments<O: Sink>(before: Ended, out: &mut O, arguments: &[CExpr]) -> Ended
-    ensures text { Puts before result (O.contents out.old) (O.contents out.new) (listed (expr_texts arguments.now)) }
-    ensures cause { Causes before result (O.faults out.old) (O.faults out.new) }
-    ensures keeps { O.keeps out.old out.new }
-{
-    match arguments.split_first() {
-        None => before,
-        Some((first, rest)) => {
-            let ended = put_expr(before, out, first);
-            put_more_arguments(ended, out, rest)
-        }
-    }
-}
-
-#[tactic(auto, using(lf_base::proofs::Chains::chains))]
-fn put_call<O: Sink>(before: Ended, out: &mut O, callee: &Name, arguments: &[CExpr]) -> Ended
-    ensures text { Puts before result (O.contents out.old) (O.contents out.new) (call_text callee.now arguments.now) }
-    ensures cause { Causes before result (O.faults out.old) (O.faults out.new) }
-    ensures keeps { O.keeps out.old out.new }
-{
-    let ended = put(before, out, callee.bytes());
-    let ended = put(ended, out, b"(");
-    let ended = put_arguments(ended, out, arguments);
-    put(ended, out, b")")
-}
 
 #[tactic(auto, using(lf_base::proofs::Chains::chains))]
 fn put_declared<O: Sink>(before: Ended, out: &mut O, kind: &CType, name: &Name) -> Ended
@@ -465,6 +203,27 @@ fn put_called<O: Sink>(before: Ended, out: &mut O, callee: &Name, arguments: &[C
     put(ended, out, b";\n")
 }
 
+#[tactic(auto, using(lf_base::proofs::Chains::chains))]
+fn put_goto<O: Sink>(before: Ended, out: &mut O, label: &Name) -> Ended
+    ensures text { Puts before result (O.contents out.old) (O.contents out.new) (goto_text label.now) }
+    ensures cause { Causes before result (O.faults out.old) (O.faults out.new) }
+    ensures keeps { O.keeps out.old out.new }
+{
+    let ended = put(before, out, b"goto ");
+    let ended = put(ended, out, label.bytes());
+    put(ended, out, b";\n")
+}
+
+#[tactic(auto, using(lf_base::proofs::Chains::chains))]
+fn put_label<O: Sink>(before: Ended, out: &mut O, name: &Name) -> Ended
+    ensures text { Puts before result (O.contents out.old) (O.contents out.new) (label_text name.now) }
+    ensures cause { Causes before result (O.faults out.old) (O.faults out.new) }
+    ensures keeps { O.keeps out.old out.new }
+{
+    let ended = put(before, out, name.bytes());
+    put(ended, out, b": ;\n")
+}
+
 #[cycle(stmt)]
 #[tactic(auto, using(crate::proofs::Texts::texts))]
 fn put_stmt<O: Sink>(before: Ended, out: &mut O, stmt: &CStmt) -> Ended
@@ -498,6 +257,8 @@ fn put_stmt<O: Sink>(before: Ended, out: &mut O, stmt: &CStmt) -> Ended
             callee,
             arguments.as_slice(),
         ),
+        CStmt::Goto { label } => put_goto(before, out, label),
+        CStmt::Label { name } => put_label(before, out, name),
         CStmt::Block { body } => put_closed(put(before, out, b"{\n"), out, body.as_slice()),
         CStmt::While { test, body } => put_block(before, out, body.as_slice(), b"while (", test),
         CStmt::If { test, then_body } => put_block(
@@ -678,12 +439,80 @@ fn put_static<O: Sink>(before: Ended, out: &mut O, is_static: bool) -> Ended
 }
 
 #[tactic(auto, using(lf_base::proofs::Chains::chains))]
+fn put_sized<O: Sink>(before: Ended, out: &mut O, kind: &CType, name: &Name, size: u64) -> Ended
+    ensures text { Puts before result (O.contents out.old) (O.contents out.new) (sized_text kind.now name.now size) }
+    ensures cause { Causes before result (O.faults out.old) (O.faults out.new) }
+    ensures keeps { O.keeps out.old out.new }
+{
+    let ended = put_declared(before, out, kind, name);
+    let ended = put(ended, out, b"[");
+    let ended = put_constant(ended, out, size);
+    put(ended, out, b"];\n")
+}
+
+fn put_line<O: Sink>(before: Ended, out: &mut O, object: &CObject) -> Ended
+    ensures text { Puts before result (O.contents out.old) (O.contents out.new) (object_text object.now) }
+    ensures cause { Causes before result (O.faults out.old) (O.faults out.new) }
+    ensures keeps { O.keeps out.old out.new }
+{
+    match object {
+        CObject::Single { kind, name } => put_plain(before, out, kind, name),
+        CObject::Array { kind, name, size } => put_sized(before, out, kind, name, *size),
+    }
+}
+
+#[tactic(auto, using(crate::proofs::Texts::loops))]
+fn put_lines<O: Sink>(before: Ended, out: &mut O, members: &[CObject]) -> Ended
+    ensures text { Puts before result (O.contents out.old) (O.contents out.new) (joined (object_texts members.now)) }
+    ensures cause { Causes before result (O.faults out.old) (O.faults out.new) }
+    ensures keeps { O.keeps out.old out.new }
+{
+    let mut ended = before;
+    for member in members {
+        ended = put_line(ended, out, member);
+    }
+    ended
+}
+
+#[tactic(auto, using(lf_base::proofs::Chains::chains))]
+fn put_structure<O: Sink>(before: Ended, out: &mut O, name: &Name, members: &[CObject]) -> Ended
+    ensures text { Puts before result (O.contents out.old) (O.contents out.new) (structure_text name.now members.now) }
+    ensures cause { Causes before result (O.faults out.old) (O.faults out.new) }
+    ensures keeps { O.keeps out.old out.new }
+{
+    let ended = put(before, out, b"struct ");
+    let ended = put(ended, out, name.bytes());
+    let ended = put(ended, out, b" {\n");
+    let ended = put_lines(ended, out, members);
+    put(ended, out, b"};\n")
+}
+
+#[tactic(auto, using(lf_base::proofs::Chains::chains))]
+fn put_extern<O: Sink>(before: Ended, out: &mut O, is_extern: bool) -> Ended
+    ensures text { Puts before result (O.contents out.old) (O.contents out.new) (extern_text is_extern) }
+    ensures cause { Causes before result (O.faults out.old) (O.faults out.new) }
+    ensures keeps { O.keeps out.old out.new }
+{
+    if is_extern {
+        put(before, out, b"extern ")
+    } else {
+        before
+    }
+}
+
+#[tactic(auto, using(lf_base::proofs::Chains::chains))]
 fn put_item<O: Sink>(before: Ended, out: &mut O, item: &CItem) -> Ended
     ensures text { Puts before result (O.contents out.old) (O.contents out.new) (item_text item.now) }
     ensures cause { Causes before result (O.faults out.old) (O.faults out.new) }
     ensures keeps { O.keeps out.old out.new }
 {
     match item {
+        CItem::Struct { name, members } => put_structure(before, out, name, members.as_slice()),
+        CItem::Object { is_extern, object } => put_line(
+            put_extern(before, out, *is_extern),
+            out,
+            object,
+        ),
         CItem::Prototype {
             result,
             name,

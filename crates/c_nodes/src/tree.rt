@@ -14,6 +14,8 @@ pub enum CType {
     Int32,
     /// `unsigned char`
     Byte,
+    /// `struct N`
+    Struct { name: Name },
 }
 
 /// The type that a function returns (6.7.5.3).
@@ -36,6 +38,15 @@ pub enum CParameter {
     Pointer { kind: CType, name: Name },
 }
 
+/// A member of a structure (6.7.2.1) or an object outside functions (6.9.2): one object, or an array of so many.
+#[derive(Drop)]
+pub enum CObject {
+    /// `T N`
+    Single { kind: CType, name: Name },
+    /// `T N[c]`
+    Array { kind: CType, name: Name, size: u64 },
+}
+
 /// An operator between two operands (6.5.5, 6.5.6, 6.5.8, 6.5.9, 6.5.13, 6.5.14).
 #[derive(Clone, Copy, Debug, PartialEq, Eq)]
 pub enum CBinary {
@@ -52,8 +63,8 @@ pub enum CBinary {
     Or,
 }
 
-/// An expression (6.5). A place is a variable or an element of a place. Operands and places that are indexed
-/// are places, constants or in parentheses.
+/// An expression (6.5). A place is a variable, an element of a place or a member of one. Operands are places,
+/// constants or in parentheses.
 #[derive(Drop)]
 pub enum CExpr {
     /// `N`
@@ -64,6 +75,11 @@ pub enum CExpr {
     Index {
         base: Boxed<CExpr>,
         subscript: Boxed<CExpr>,
+    },
+    /// `L.N`
+    Member {
+        base: Boxed<CExpr>,
+        name: Name,
     },
     /// A constant that is not negative.
     Constant {
@@ -170,6 +186,14 @@ pub enum CStmt {
         callee: Name,
         arguments: Items<CExpr>,
     },
+    /// `goto N;`
+    Goto {
+        label: Name,
+    },
+    /// `N: ;`, which stands last in its block
+    Label {
+        name: Name,
+    },
     /// `{`, statements, `}`
     Block {
         body: Items<CStmt>,
@@ -192,9 +216,20 @@ pub enum CStmt {
     },
 }
 
-/// A declaration or definition of a function (6.7, 6.9.1).
+/// A declaration of a structure, and a declaration or definition of an object or a function outside functions
+/// (6.7, 6.9).
 #[derive(Drop)]
 pub enum CItem {
+    /// `struct N {`, a line `T N;` or `T N[c];` for each member, `};`
+    Struct {
+        name: Name,
+        members: Items<CObject>,
+    },
+    /// `T N;` or `T N[c];`, or the same with `extern` in front
+    Object {
+        is_extern: bool,
+        object: CObject,
+    },
     /// `R N(P);`
     Prototype {
         result: CResult,

@@ -1,5 +1,5 @@
 use Rattle.c_nodes.proofs.PreludeTexts.{grammatical_with, file_text-file_with}
-use Rattle.c_nodes.proofs.LinkingPrelude.{prelude_right}
+use Rattle.c_nodes.proofs.LinkingPrelude.{prelude_right, prelude_jumps}
 use Rattle.c_nodes.proofs.law.prelude_goes_on.Goals as goal
 
 pub returns-clause-grammatical : goal.returns-clause-grammatical
@@ -10,3 +10,6 @@ returns-clause-text c rest = file_text-file_with rest
 
 pub returns-clause-right : goal.returns-clause-right
 returns-clause-right c rest = prelude_right rest
+
+pub returns-clause-jumps : goal.returns-clause-jumps
+returns-clause-jumps c = prelude_jumps

@@ -1,7 +1,7 @@
 use Rattle.std.proofs.Common.{drop}
 use Rattle.lf_base.specs.Puts.{AwaitsPuts, Causes}
 use Rattle.c_nodes.specs.Text.{byte_texts}
-use Rattle.c_nodes.proofs.print.put_bytes.Given as goal
+use Rattle.c_nodes.proofs.expressions.put_bytes.Given as goal
 
 -- what is left to print
 abbrev pub invariant-loop-byte : goal.invariant-loop-byte

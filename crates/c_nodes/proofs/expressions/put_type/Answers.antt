@@ -1,4 +1,4 @@
-use Rattle.c_nodes.proofs.print.put_type.Goals as goal
+use Rattle.c_nodes.proofs.expressions.put_type.Goals as goal
 
 pub returns-in-Byte-clause-text : goal.returns-in-Byte-clause-text
 returns-in-Byte-clause-text g c = rw c.in-Byte.is c.put-in-Byte.ensures.text

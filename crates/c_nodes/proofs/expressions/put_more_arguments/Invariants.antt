@@ -1,7 +1,7 @@
 use Rattle.std.proofs.Common.{drop}
 use Rattle.lf_base.specs.Puts.{AwaitsPuts, Causes}
 use Rattle.c_nodes.specs.Text.{behind_commas, expr_texts}
-use Rattle.c_nodes.proofs.print.put_more_arguments.Given as goal
+use Rattle.c_nodes.proofs.expressions.put_more_arguments.Given as goal
 
 -- what is left to print
 abbrev pub invariant-loop-argument : goal.invariant-loop-argument

@@ -15,10 +15,10 @@ use Rattle.c_nodes.specs.declared.tree.CType.TheVariants.{Int64}
 use Rattle.c_nodes.specs.declared.tree.CExpr.TheVariants.{Variable, Constant, Address}
 use Rattle.c_nodes.specs.declared.tree.CStmt.TheVariants.{DeclareValue, Call, Return, ReturnValue, Block}
 use Rattle.c_nodes.specs.CValues.{W32, W64, Local, Number, Pointer, fits}
-use Rattle.c_nodes.specs.CState.{read_from, Slot, Cells, State, no_names, find_name, slot_of, put_object, with_slot, closed}
-use Rattle.c_nodes.specs.CMeaning.{Element, address_of, designated, within_object, variable_value, all_given, written_byte, Returned, Doing, Calls, calls_of, call, on_procedure, first_of, external_in, block, statement_layer, statement, statements, status_of, begin, CMeaning}
+use Rattle.c_nodes.specs.CState.{Around, read_from, Slot, Cells, State, no_names, find_name, slot_of, put_object, with_slot, closed}
+use Rattle.c_nodes.specs.CMeaning.{Element, address_of, named, within_object, variable_value, all_given, written_byte, Returned, Doing, Calls, calls_of, call, on_procedure, first_of, external_in, block, clause, statement, statements, status_of, all_items, around_all, begin, CMeaning}
 use Rattle.c_nodes.specs.HelperLaws.{HasPrelude, overflows}
-use Rattle.c_nodes.proofs.StmtInduction.{fold-Return, fold-Block}
+use Rattle.c_nodes.proofs.CStmts.{does-Return, does-Block}
 use Rattle.c_nodes.proofs.CExprs.{exprs}
 use Rattle.c_nodes.proofs.CRuns.{run_declare_value, run_call, run_return, run_block, stop_block}
 use Rattle.c_nodes.proofs.CCalls.{calls_putchar, prints, call_going}
@@ -63,8 +63,11 @@ module _ (source : Source) (small : IsSmall source.value) (few : count source.va
   abbrev run : List CStmt → Doing
   run = statements n calls
 
+  abbrev around : Around
+  around = around_all (all_items files) input
+
   abbrev start : State
-  start = begin input
+  start = begin files input
 
   abbrev w0 : Written
   w0 = written [] []
@@ -74,11 +77,11 @@ module _ (source : Source) (small : IsSmall source.value) (few : count source.va
   init_runs =
       run_call n calls (init_name source.name) [] [] None start start w0 w0 refl
       (ap (λ o. on_procedure o (λ q. call n (calls_of files n (suc (suc d)) q.file) q []) start w0) (ap (λ o. first_of o (external_in (init_name source.name) 0 files)) (init_found source short))
-      ∙ call_going n (calls_of files n (suc (suc d)) 0) init_procedure [] no_names start w0 refl (Some (Returned None)) (record { here = no_names; callers = no_names ∷ []; input = input }) w0
-      (order_left (statement n (calls_of files n (suc (suc d)) 0) Return) [] (record { here = no_names; callers = no_names ∷ []; input = input }) w0 (Returned None) (record { here = no_names; callers = no_names ∷ []; input = input }) w0 (ap (λ f. f (record { here = no_names; callers = no_names ∷ []; input = input }) w0) (fold-Return Doing (statement_layer n (calls_of files n (suc (suc d)) 0))))))
+      ∙ call_going n (calls_of files n (suc (suc d)) 0) init_procedure [] no_names start w0 refl (Some (Returned None)) (record { here = no_names; callers = no_names ∷ []; around = around }) w0
+      (order_left (statement n (calls_of files n (suc (suc d)) 0) Return) [] (record { here = no_names; callers = no_names ∷ []; around = around }) w0 (Returned None) (record { here = no_names; callers = no_names ∷ []; around = around }) w0 (ap (λ f. f (record { here = no_names; callers = no_names ∷ []; around = around }) w0) (does-Return n (calls_of files n (suc (suc d)) 0)))))
 
   abbrev at : List ℤ → State
-  at vs = main_state vs [] input
+  at vs = main_state vs [] around
 
   abbrev w1 : Written
   w1 = written (codes " ") []
@@ -116,7 +119,7 @@ module _ (source : Source) (small : IsSmall source.value) (few : count source.va
     gap_runs : doing (Call (codes "lf_gap") (Address (Variable (codes "r1")) ∷ Constant 1 ∷ [])) s1 w1 ≡ Going None s2 w1
     gap_runs =
         run_call n calls (codes "lf_gap") (Address (Variable (codes "r1")) ∷ Constant 1 ∷ []) (Pointer (Local 0 0) 0 ∷ Number W32 (pos 1) ∷ []) None s1 s2 w1 w1
-        (simp exprs (ap (λ o. all_given (address_of (designated o) s1 ∷ Some (Number W32 (pos 1)) ∷ [])) (find_record (v ∷ vs)) ∙ ap (λ o. all_given (within_object (Local 0 0) 0 o ∷ Some (Number W32 (pos 1)) ∷ [])) (slot_record (v ∷ vs))))
+        (simp exprs (ap (λ o. all_given (address_of (named (codes "r1") o s1) s1 ∷ Some (Number W32 (pos 1)) ∷ [])) (find_record (v ∷ vs)) ∙ ap (λ o. all_given (within_object (Local 0 0) 0 o ∷ Some (Number W32 (pos 1)) ∷ [])) (slot_record (v ∷ vs))))
         (gap_law files 0 has n (suc (suc d)) 0 0 false (pos 0) [] W32 (pos 1) s1 w1 (slot_record (v ∷ vs)) refl)
 
     int_runs : doing (Call (codes "lf_int") (temporary_value k ∷ [])) s2 w1 ≡ Going None s2 w2
@@ -140,10 +143,10 @@ module _ (source : Source) (small : IsSmall source.value) (few : count source.va
   record_body = printed source.value
 
   abbrev value_runs : Option ℤ → Type 0
-  value_runs o = Ends files has n d (fifteen n long) [] input o (count source.value) (lowered source.value 0) [] w1
+  value_runs o = Ends files has n d (fifteen n long) [] around o (count source.value) (lowered source.value 0) [] w1
 
   computed_is : value_runs (value_of source.value)
-  computed_is = lowered_ends files has n d (fifteen n long) [] input source.value small 0 [] refl (omega arith) w1
+  computed_is = lowered_ends files has n d (fifteen n long) [] around source.value small 0 [] refl (omega arith) w1
 
   abbrev rest_of : List CStmt
   rest_of = Block record_body ∷ ReturnValue (Constant 0) ∷ []
@@ -151,8 +154,8 @@ module _ (source : Source) (small : IsSmall source.value) (few : count source.va
   zero_runs : (s : State) (w : Written) → doing (ReturnValue (Constant 0)) s w ≡ Going (Some (Returned (Some (Number W32 (pos 0))))) s w
   zero_runs s w = run_return n calls (Constant 0) (Number W32 (pos 0)) s w (simp exprs refl)
 
-  block_is : (s : State) (w : Written) → doing (Block record_body) s w ≡ block (map doing record_body) s w
-  block_is s w = ap (λ f. f s w) (fold-Block Doing (statement_layer n calls) record_body)
+  block_is : (s : State) (w : Written) → doing (Block record_body) s w ≡ block (map (clause n calls) record_body) s w
+  block_is s w = ap (λ f. f s w) (does-Block n calls record_body)
 
   abbrev end_of : Option ℤ → Outcome
   end_of (Some v) = Ended (written ((codes " " ++ signed_decimal v) ++ 10 ∷ []) []) 0 None

@@ -14,16 +14,16 @@ use Rattle.c_nodes.specs.declared.tree.CType.TheVariants.{Int64}
 use Rattle.c_nodes.specs.declared.tree.CExpr.TheVariants.{Constant}
 use Rattle.c_nodes.specs.declared.tree.CStmt.TheVariants.{DeclareCall}
 use Rattle.c_nodes.specs.CValues.{Width, W32, W64, Local, CValue, Number, fits}
-use Rattle.c_nodes.specs.CState.{Frame, State, declare, read_from}
-use Rattle.c_nodes.specs.CMeaning.{reading, variable_value, Element, stored_in, fresh, all_given, answer, answered, initialize, Flow, Doing, Calls, calls_of, statement_layer, statement, statements}
+use Rattle.c_nodes.specs.CState.{Around, Frame, State, read_from}
+use Rattle.c_nodes.specs.CMeaning.{reading, variable_value, Element, stored_in, begin_object, all_given, answer, answered, initialize, Flow, Doing, Calls, calls_of, statement, statements}
 use Rattle.c_nodes.specs.HelperLaws.{HasPrelude, overflows, value_or_overflow, Combines}
 use Rattle.c_nodes.proofs.CExprs.{exprs}
 use Rattle.c_nodes.proofs.CRuns.{run_declare_value, run_declare_call, stop_answer}
-use Rattle.c_nodes.proofs.StmtInduction.{fold-DeclareCall}
+use Rattle.c_nodes.proofs.CStmts.{does-DeclareCall}
 use Rattle.c_nodes.proofs.Arithmetic.{add_law, fit_law}
 use Rattle.c_nodes.proofs.Multiply.{sub_law, mul_law}
-use Rattle.lf_driver.specs.declared.program.Operator.{Operator}
-use Rattle.lf_driver.specs.declared.program.Operator.TheVariants.{Add, Subtract, Multiply}
+use Rattle.lf_driver.specs.declared.built.Operator.{Operator}
+use Rattle.lf_driver.specs.declared.built.Operator.TheVariants.{Add, Subtract, Multiply}
 use Rattle.lf_driver.specs.Source.{Tree, Literal, Binary}
 use Rattle.lf_driver.specs.Lowered.{temporary, temporary_value, helper, constant, computed, fitted, operation, count, lowered}
 use Rattle.lf_driver.specs.Fortran.{IsSmall, exact, operated, of_kind4, value_of}
@@ -46,11 +46,11 @@ pub append_stopped : (n : ℕ) (calls : Calls) (xs ys : List CStmt) (s : State) 
 append_stopped n calls xs ys s w o h = statements_append n calls xs ys s w ∙ ap (λ o. then_do o (next_or (statements n calls ys))) h
 
 -- a declaration whose call ends the program
-stop_declare_call : (n : ℕ) (calls : Calls) (kind : CType) (name callee : Name) (arguments : List CExpr) (vs : List CValue) (o : Outcome) (s : State) (w : Written) → all_given (map (λ e. (reading e).value (declare name (fresh kind) s)) arguments) ≡ Some vs → calls callee vs (declare name (fresh kind) s) w ≡ Stopped o → statement n calls (DeclareCall kind name callee arguments) s w ≡ Stopped o
+stop_declare_call : (n : ℕ) (calls : Calls) (kind : CType) (name callee : Name) (arguments : List CExpr) (vs : List CValue) (o : Outcome) (s : State) (w : Written) → all_given (map (λ e. (reading e).value (begin_object kind name s)) arguments) ≡ Some vs → calls callee vs (begin_object kind name s) w ≡ Stopped o → statement n calls (DeclareCall kind name callee arguments) s w ≡ Stopped o
 stop_declare_call n calls kind name callee arguments vs o s w h k =
-    let t = declare name (fresh kind) s in
-    ap (λ f. f s w) (fold-DeclareCall Doing (statement_layer n calls) kind name callee arguments)
-    ∙ bind_stopped (bind (change (declare name (fresh kind))) (λ u. bind (answered calls callee arguments) initialize)) (λ u. give None) s w o
+    let t = begin_object kind name s in
+    ap (λ f. f s w) (does-DeclareCall n calls kind name callee arguments)
+    ∙ bind_stopped (bind (change (begin_object kind name)) (λ u. bind (answered calls callee arguments) initialize)) (λ u. give None) s w o
     (bind_stopped (answered calls callee arguments) initialize t w o (bind_stopped (answer calls callee arguments) (given Undefined) t w o (stop_answer calls callee arguments vs o t w h k)))
 
 law_of : (operator : Operator) → Combines (helper operator) (exact operator)
@@ -59,28 +59,28 @@ law_of Subtract = sub_law
 law_of Multiply = mul_law
 
 -- while `main` computes: the temporaries of these values, and the record's variable
-abbrev pub main_state : List ℤ → List Frame → List ℕ → State
-main_state vs callers input = record { here = record { next = suc (length vs); names = temps vs }; callers = callers; input = input }
+abbrev pub main_state : List ℤ → List Frame → Around → State
+main_state vs callers around = record { here = record { next = suc (length vs); names = temps vs }; callers = callers; around = around }
 
-module _ (files : List CFile) (h : HasPrelude files 0) (n d : ℕ) (long : 15 ≤ n) (callers : List Frame) (input : List ℕ) where
+module _ (files : List CFile) (h : HasPrelude files 0) (n d : ℕ) (long : 15 ≤ n) (callers : List Frame) (around : Around) where
   abbrev calls : Calls
   calls = calls_of files n (suc (suc (suc d))) 0
 
   abbrev at : List ℤ → State
-  at vs = main_state vs callers input
+  at vs = main_state vs callers around
 
   abbrev run : List CStmt → Doing
   run = statements n calls
 
   -- a new temporary that is not set yet
   abbrev declared : List ℤ → State
-  declared vs = declare (temporary (suc (length vs))) (fresh Int64) (at vs)
+  declared vs = begin_object Int64 (temporary (suc (length vs))) (at vs)
 
   abbrev set : ℤ → List ℤ → State
-  set z vs = record { here = record { next = suc (length vs) + 1; names = temps (z ∷ vs) }; callers = callers; input = input }
+  set z vs = record { here = record { next = suc (length vs) + 1; names = temps (z ∷ vs) }; callers = callers; around = around }
 
   set_is : (z : ℤ) (vs : List ℤ) → set z vs ≡ at (z ∷ vs)
-  set_is z vs = ap (λ k. record { here = record { next = k; names = temps (z ∷ vs) }; callers = callers; input = input }) (omega arith)
+  set_is z vs = ap (λ k. record { here = record { next = k; names = temps (z ∷ vs) }; callers = callers; around = around }) (omega arith)
 
   stores : (width : Width) (z : ℤ) (vs : List ℤ) → fits W64 z ≡ true → stored_in (Element (Local 0 (suc (length vs))) 0) (Number width z) (declared vs) ≡ Some (set z vs)
   stores width z vs f = simp (same_id (suc (length vs)), f) refl

@@ -1,38 +1,31 @@
 -- The printed C is a file of the profile: its names are identifiers and no words, and its statements and items are in
 -- the grammar.
 use Rattle.std.proofs.Common.{◌≡◌, ℕ, ◌+◌, ◌%◌, ◌^◌, ◌<◌, ◌≤◌, Bool, true, false, List, [], ◌∷◌, ◌++◌, length, map, codes, refl, ap, ◌∙◌, arith}
-use Rattle.std.specs.Prelude.{◌&&◌, ◌||◌, ◌==◌, not, nat_lt}
-use Rattle.std.specs.Char.{is_ascii_alphanumeric}
+use Rattle.std.specs.Prelude.{◌&&◌, not, nat_lt}
 use Rattle.std.specs.Fmt.{decimal}
 use Rattle.std.specs.List.{list_all}
 use Rattle.std.specs.Str.{bytes_eq}
 use Rattle.std.proofs.lemmas.Bool.Decides.{nat_tests}
 use Rattle.std.proofs.lemmas.Fmt.{decimal_by_steps_wide}
 use Rattle.std.proofs.lemmas.List.Folds.{list_all-append, list_all-map}
-use Rattle.ff_lexer.specs.Statements.{is_name_byte}
 use Rattle.c_nodes.specs.declared.tree.CExpr.TheVariants.{Constant}
 use Rattle.c_nodes.specs.declared.tree.CItem.TheVariants.{Prototype, Function}
 use Rattle.c_nodes.specs.declared.tree.CResult.TheVariants.{Void, Int}
 use Rattle.c_nodes.specs.declared.tree.CStmt.{CStmt}
 use Rattle.c_nodes.specs.declared.tree.CStmt.TheVariants.{Call, Return, ReturnValue, Block}
-use Rattle.c_nodes.specs.Grammar.{is_name, is_word, is_stmt, is_item, is_block, IsGrammatical}
+use Rattle.c_nodes.specs.Grammar.{is_name, is_word, is_stmt, is_item, is_block, has_last_labels, IsGrammatical}
 use Rattle.c_nodes.proofs.GrammarShapes.{standings}
 use Rattle.c_nodes.proofs.PreludeTexts.{grammatical_with}
-use Rattle.lf_driver.specs.declared.program.Operator.{Operator}
-use Rattle.lf_driver.specs.declared.program.Operator.TheVariants.{Add, Subtract, Multiply}
+use Rattle.lf_driver.specs.declared.built.Operator.{Operator}
+use Rattle.lf_driver.specs.declared.built.Operator.TheVariants.{Add, Subtract, Multiply}
+use Rattle.lf_driver.specs.Built.{is_name_byte}
 use Rattle.lf_driver.specs.Fortran.{IsSmall}
 use Rattle.lf_driver.specs.Lowered.{temporary, constant, computed, fitted, operation, count, lowered, printing_begins, printing_ends, printed, init_name, main_body, lowered_items, lowered_file}
 use Rattle.lf_driver.specs.Source.{Tree, Literal, Binary, Source}
+use Rattle.lf_driver.proofs.PlainMain.{main_last, return_last}
 use Rattle.lf_driver.proofs.Temporaries.{Few}
 
--- what a name of C goes on with
-abbrev goes_on : ℕ → Bool
-goes_on byte = is_ascii_alphanumeric byte || byte == 95
-
-byte_goes_on : (b : ℕ) → is_name_byte b ≡ true → goes_on b ≡ true
-byte_goes_on b h = grind (arith, nat_tests)
-
-digit_goes_on : (d : ℕ) → d < 10 → goes_on (48 + d) ≡ true
+digit_goes_on : (d : ℕ) → d < 10 → is_name_byte (48 + d) ≡ true
 digit_goes_on d h = grind (arith, nat_tests)
 
 both : (p q : Bool) → p && q ≡ true → (p ≡ true) × (q ≡ true)
@@ -42,18 +35,12 @@ both false q h = absurd (cc)
 and_true : (p q : Bool) → p ≡ true → q ≡ true → p && q ≡ true
 and_true p q h k = ap (λ b. b && q) h ∙ k
 
-name_goes_on : (bytes : List ℕ) → list_all is_name_byte bytes ≡ true → list_all goes_on bytes ≡ true
-name_goes_on [] h = refl
-name_goes_on (b ∷ bs) h =
-    let k = both (is_name_byte b) (list_all is_name_byte bs) h in
-    and_true (goes_on b) (list_all goes_on bs) (byte_goes_on b k.0) (name_goes_on bs k.1)
+append_goes_on : (xs ys : List ℕ) → list_all is_name_byte xs ≡ true → list_all is_name_byte ys ≡ true → list_all is_name_byte (xs ++ ys) ≡ true
+append_goes_on xs ys h k = list_all-append is_name_byte xs ys ∙ and_true (list_all is_name_byte xs) (list_all is_name_byte ys) h k
 
-append_goes_on : (xs ys : List ℕ) → list_all goes_on xs ≡ true → list_all goes_on ys ≡ true → list_all goes_on (xs ++ ys) ≡ true
-append_goes_on xs ys h k = list_all-append goes_on xs ys ∙ and_true (list_all goes_on xs) (list_all goes_on ys) h k
-
-decimal_goes_on : (n : ℕ) → Few n → list_all goes_on (decimal n) ≡ true
+decimal_goes_on : (n : ℕ) → Few n → list_all is_name_byte (decimal n) ≡ true
 decimal_goes_on n few =
-    decimal_by_steps_wide (λ m ds. list_all goes_on ds ≡ true) (λ m small. and_true (goes_on (48 + m)) true (digit_goes_on m (omega arith)) refl) (λ m ds large d. append_goes_on ds ((48 + m % 10) ∷ []) d (and_true (goes_on (48 + m % 10)) true (digit_goes_on (m % 10) (omega arith)) refl)) n few
+    decimal_by_steps_wide (λ m ds. list_all is_name_byte ds ≡ true) (λ m small. and_true (is_name_byte (48 + m)) true (digit_goes_on m (omega arith)) refl) (λ m ds large d. append_goes_on ds ((48 + m % 10) ∷ []) d (and_true (is_name_byte (48 + m % 10)) true (digit_goes_on (m % 10) (omega arith)) refl)) n few
 
 temporary_named : (k : ℕ) → Few k → is_name (temporary k) ≡ true
 temporary_named k few = ap (λ b. b && not (is_word (temporary k))) (decimal_goes_on k few)
@@ -62,7 +49,7 @@ init_named : (name : List ℕ) → length name < 2 ^ 64 → list_all is_name_byt
 init_named name short h =
     let digits = decimal (length name) in
     let number = append_goes_on digits (codes "_") (decimal_goes_on (length name) (omega arith)) refl in
-    let named = append_goes_on (digits ++ codes "_") name number (name_goes_on name h) in
+    let named = append_goes_on (digits ++ codes "_") name number h in
     ap (λ b. b && not (is_word (init_name name))) (append_goes_on ((digits ++ codes "_") ++ name) (codes "_init") named refl)
 
 constant_right : (k v : ℕ) → Few k → v ≤ 2147483647 → is_stmt (constant k v) ≡ true
@@ -108,13 +95,13 @@ body_right name body named right = simp (standings, named, right) refl
 main_right : (source : Source) → is_name (init_name source.name) ≡ true → list_all is_stmt (printed source.value) ≡ true → list_all is_stmt (main_body source) ≡ true
 main_right source named right = body_right (init_name source.name) (printed source.value) named (list_all-map (λ b. b) is_stmt (printed source.value) ∙ right)
 
-three_right : (name : List ℕ) (body : List CStmt) → is_name name ≡ true → not (bytes_eq name (codes "main")) ≡ true → list_all is_stmt body ≡ true → list_all is_item (Prototype Void name [] ∷ Function false Void name [] (Return ∷ []) ∷ Function false Int (codes "main") [] body ∷ []) ≡ true
-three_right name body named other right = simp (standings, named, other, right) refl
+three_right : (name : List ℕ) (body : List CStmt) → is_name name ≡ true → not (bytes_eq name (codes "main")) ≡ true → list_all is_stmt body ≡ true → has_last_labels body ≡ true → list_all is_item (Prototype Void name [] ∷ Function false Void name [] (Return ∷ []) ∷ Function false Int (codes "main") [] body ∷ []) ≡ true
+three_right name body named other right last = simp (standings, named, other, right, last, return_last) refl
 
 items_right : (source : Source) → IsSmall source.value → count source.value < 2 ^ 70 → length source.name < 2 ^ 64 → list_all is_name_byte source.name ≡ true → list_all is_item (lowered_items source) ≡ true
 items_right source small few short letters =
     let named = init_named source.name short letters in
-    three_right (init_name source.name) (main_body source) named refl (main_right source named (printed_right source.value small few))
+    three_right (init_name source.name) (main_body source) named refl (main_right source named (printed_right source.value small few)) (main_last source)
 
 pub grammatical : (source : Source) → IsSmall source.value → count source.value < 2 ^ 70 → length source.name < 2 ^ 64 → list_all is_name_byte source.name ≡ true → IsGrammatical (lowered_file source)
 grammatical source small few short letters = grammatical_with (lowered_items source) (items_right source small few short letters) refl

@@ -1,83 +1,90 @@
 -- The headline, from the law on the printed C.
-use Rattle.std.proofs.Common.{◌≡◌, ℕ, zero, suc, Bool, true, false, List, [], ◌∷◌, codes, Option, Some, None, IsSome, Ok, Err, refl, sym, ap, ◌∙◌, arith}
-use Rattle.std.specs.Prelude.{if◌then◌else◌, ◌&&◌, bytes_eq}
-use Rattle.std.specs.FinMap.{get, insert}
+use Rattle.std.proofs.Common.{◌≡◌, ℕ, ◌^◌, ◌<◌, true, false, List, [], ◌∷◌, Option, Some, None, ◌⊎◌, inl, inr, refl, sym, ap, subst, ◌∙◌, arith}
 use Rattle.lf_base.specs.Files.{Files}
-use Rattle.ff_lexer.specs.Statements.{statements_of}
-use Rattle.lf_driver.specs.Headline.{place_in, Means, KeepsMeaning}
-use Rattle.c_nodes.specs.Text.{file_text}
-use Rattle.lf_driver.specs.Answers.{Call, Answered}
-use Rattle.lf_driver.specs.Ends.{Written}
-use Rattle.lf_driver.specs.Lowered.{lowered_file}
-use Rattle.lf_driver.specs.Source.{Source, Judged}
-use Rattle.lf_driver.specs.Verdict.{Verdict, of_command, of_text, of_source, source_in, c_name}
-use Rattle.lf_driver.specs.Verdict as judged
-use Rattle.lf_driver.specs.Words.{CommandText, words_of, is_source_name}
+use Rattle.c_nodes.specs.Grammar.{IsGrammatical}
+use Rattle.c_nodes.proofs.PreludeTexts.{prelude_spelled}
 use Rattle.lf_driver.specs.declared.command.Verb.TheVariants.{Compile}
+use Rattle.lf_driver.specs.declared.outcome.Outcome.{Outcome}
+use Rattle.lf_driver.specs.declared.outcome.Outcome.TheVariants.{Done, Usage, Absent, Refused, ReadFault, WriteFault, Memory}
+use Rattle.lf_driver.specs.Answers.{Call}
+use Rattle.lf_driver.specs.Compile.{IsFit, Compiles}
+use Rattle.lf_driver.specs.Ends.{Writes, Shows, status_of, ComesTo, Reports, Tells}
+use Rattle.lf_driver.specs.Headline.{place_of, IsFaithful, Means, KeepsMeaning}
+use Rattle.lf_driver.specs.Lowered.{c_file}
+use Rattle.lf_driver.specs.Source.{Source}
+use Rattle.lf_driver.specs.Words.{CommandText, words_of, shows}
 use Rattle.lf_driver.proofs.Agrees.{agrees}
 use Rattle.lf_driver.proofs.Exact.{told_at}
 use Rattle.lf_driver.proofs.Grammatical.{grammatical}
 use Rattle.lf_driver.proofs.Linked.{linked}
-use Rattle.lf_driver.proofs.SourceBounds.{source_bounded}
 
-none : false ≡ true → ⊥
-none h = cc
+wider : (n : ℕ) → n < 2 ^ 64 → n < 2 ^ 70
+wider n h = omega (arith, h)
 
-abbrev command_if : Bool → List ℕ → Option CommandText
-command_if t file = if t then Some (Compile, 0, file ∷ []) else None
+c_grammatical : (source : Option Source) → IsFit source → IsGrammatical (c_file source)
+c_grammatical None h = prelude_spelled.grammatical
+c_grammatical (Some source) h = grammatical source h.small (wider _ h.few) h.short h.named
 
-command_there : (t : Bool) (file : List ℕ) → IsSome (command_if t file) → (name : List ℕ) × (command_if t file ≡ Some (Compile, 0, name ∷ []))
-command_there true file h = (file, refl)
-command_there false file h = absurd (none h)
+faithful : (file : List ℕ) (source : Option Source) → IsFit source → IsFaithful file source
+faithful file None h = tt
+faithful file (Some source) h = (linked source (wider _ h.few) h.short, agrees (place_of file source) source h.small (wider _ h.few) h.short)
 
--- the words of a command name one file
-asked : (words : List (List ℕ)) → IsSome (words_of words) → (file : List ℕ) × (words_of words ≡ Some (Compile, 0, file ∷ []))
-asked [] h = absurd (none h)
-asked (verb ∷ []) h = absurd (none h)
-asked (verb ∷ file ∷ []) h = command_there (bytes_eq verb (codes "compile") && is_source_name file) file h
-asked (verb ∷ file ∷ more ∷ names) h = absurd (none h)
-
--- a verdict of this kind has a source
-abbrev HasSource : List ℕ → Option (List ℕ) → List ℕ → List ℕ → Type 0
-HasSource file there name bytes = (text : List ℕ) × (source : Source) × (there ≡ Some text) × (source_in text ≡ Ok source) × (name ≡ c_name file) × (bytes ≡ file_text (lowered_file source))
-
-abbrev name_in : Verdict → List ℕ
-name_in (judged.Done name bytes) = name
-name_in verdict = []
-
-abbrev bytes_in : Verdict → List ℕ
-bytes_in (judged.Done name bytes) = bytes
-bytes_in verdict = []
-
-of_judged : (file text name bytes : List ℕ) (j : Judged) → source_in text ≡ j → of_source file j ≡ judged.Done name bytes → HasSource file (Some text) name bytes
-of_judged file text name bytes (Ok source) e h = (text, source, refl, e, sym (ap name_in h), sym (ap bytes_in h))
-of_judged file text name bytes (Err fault) e h = cc
-
-has_source : (file name bytes : List ℕ) (there : Option (List ℕ)) → of_text file there ≡ judged.Done name bytes → HasSource file there name bytes
-has_source file name bytes None h = cc
-has_source file name bytes (Some text) h = of_judged file text name bytes (source_in text) refl h
-
-means : (c : Call) (files : Files) (w : Written c.words c.new files) (a : (file : List ℕ) × (words_of c.words ≡ Some (Compile, 0, file ∷ []))) → Means c files
-means c files w a =
-    let s = has_source a.0 w.0 w.1 (get files a.0) (sym (ap (λ o. of_command o files) a.1) ∙ w.2) in
-    let b = source_bounded s.0 s.1 s.3 in
+means : (c : Call) (files : Files) (file : List ℕ) → Compiles file files c.new → Means c files file
+means c files file k =
+    let d = k.compiled in
     record {
-      file = a.0;
-      text = s.0;
-      source = s.1;
-      bytes = w.1;
-      asked = a.1;
-      there = s.2;
-      accepted = s.3;
-      written = w.3 ∙ ap (λ n. Some (insert files n w.1)) s.4;
-      spells = record { grammatical = grammatical s.1 b.0 b.1 b.2 b.3; text = s.5 };
-      linked = linked s.1 b.1 b.2;
-      agree = agrees (place_in a.0 (statements_of s.0)) s.1 b.0 b.1 b.2;
+      text = k.text;
+      tree = d.tree;
+      source = d.source;
+      bytes = k.bytes;
+      there = k.there;
+      parsed = d.parsed;
+      built = d.built;
+      written = k.written;
+      spells = record { grammatical = c_grammatical d.source d.fits; text = d.is };
+      faithful = faithful file d.source d.fits;
     }
 
-pub keeps_meaning : (status : ℕ) (c : Call) → Answered status c → KeepsMeaning status c
-keeps_meaning zero c h e files told = means c files (told_at c.old files (Written c.words c.new) told h.1) (asked c.words h.0)
-keeps_meaning (suc status) c h e files told = absurd (suc_not_zero e)
+positive : (n k : ℕ) → 0 < n → n ≡ k → k ≡ 0 → ⊥
+positive n k h e z = omega (arith, h, e, z)
+
+-- where nothing is told, the call is done
+tells_done : (came told : Outcome) (a b : Option (List ℕ)) (m n : ℕ) → Tells came told a b m n → status_of told ≡ 0 → came ≡ Done
+tells_done came Done a b m n h e = sym h.0
+tells_done came Usage a b m n h e = absurd (positive 2 2 (omega arith) refl e)
+tells_done came (Absent name) a b m n h e = absurd (positive 2 2 (omega arith) refl e)
+tells_done came (Refused name line rule) a b m n h e = absurd (positive 1 1 (omega arith) refl e)
+tells_done came ReadFault a b m n h e = absurd (positive 3 3 (omega arith) refl e)
+tells_done came WriteFault a b m n h e = absurd (positive 4 4 (omega arith) refl e)
+tells_done came Memory a b m n h e = absurd (positive 5 5 (omega arith) refl e)
+
+came_done : (came told : Outcome) (a b : Option (List ℕ)) (m n : ℕ) → Reports came told a b m n → status_of told ≡ 0 → came ≡ Done
+came_done Done told a b m n h e = refl
+came_done Usage told a b m n h e = tells_done Usage told a b m n h e
+came_done (Absent name) told a b m n h e = tells_done (Absent name) told a b m n h e
+came_done (Refused name line rule) told a b m n h e = tells_done (Refused name line rule) told a b m n h e
+came_done ReadFault told a b m n h e = absurd (positive 3 (status_of told) (omega arith) (sym (ap status_of h.0)) e)
+came_done WriteFault told a b m n h e = absurd (positive 4 (status_of told) (omega arith) (sym (ap status_of h.0)) e)
+came_done Memory told a b m n h e = absurd (positive 5 (status_of told) (omega arith) (sym (ap status_of h.0)) e)
+
+abbrev first : List (List ℕ) → List ℕ
+first [] = []
+first (file ∷ files) = file
+
+abbrev file_of : Option CommandText → List ℕ
+file_of None = []
+file_of (Some command) = first command.2
+
+compiles : (c : Call) (files : Files) (file : List ℕ) → c.old ≡ Some files → words_of c.words ≡ Some (Compile, 0, file ∷ []) → Writes c.words c.old c.new c.shown c.shown' ⊎ Shows c.words c.old c.new c.shown c.shown' → Compiles file files c.new
+compiles c files file t w (inl k) =
+    let same : k.0 ≡ file = ap file_of (sym k.1 ∙ w) in
+    subst (λ f. Compiles f files c.new) same (told_at c.old files (λ x. Compiles k.0 x c.new) t k.2)
+compiles c files file t w (inr k) = absurd (no (sym (ap shows w) ∙ k.0))
   where
-    suc_not_zero : suc status ≡ 0 → ⊥
-    suc_not_zero k = omega (arith, k)
+    no : false ≡ true → ⊥
+    no e = cc
+
+pub keeps_meaning : (status : ℕ) (came told : Outcome) (c : Call) → status ≡ status_of told → ComesTo came c.words c.old c.new c.shown c.shown' → Reports came told c.held c.held' c.faults c.faults' → KeepsMeaning status c
+keeps_meaning status came told c e k r z files t file w =
+    let done : came ≡ Done = came_done came told c.held c.held' c.faults c.faults' r (sym e ∙ z) in
+    means c files file (compiles c files file t w (subst (λ o. ComesTo o c.words c.old c.new c.shown c.shown') done k))

@@ -13,15 +13,16 @@ use Rattle.c_nodes.specs.declared.tree.CExpr.TheVariants.{Variable, Constant, Ad
 use Rattle.c_nodes.specs.declared.tree.CItem.TheVariants.{Prototype, Function}
 use Rattle.c_nodes.specs.declared.tree.CStmt.{CStmt}
 use Rattle.c_nodes.specs.declared.tree.CStmt.TheVariants.{DeclareCall, Call, Return, ReturnValue, Block}
-use Rattle.c_nodes.specs.Linking.{Typed, Object, Number, Leads, is_number, Entry, Scope, first_or, is_declared, type_of, ANumber, APointer, Signature, library, signature_of, address_of, given_by, call_gives, is_call, is_value, kept_if, Step, declared, initialized, on_scope, in_turn, is_right, step, signature, outermost, is_right_body, are_right, known_behind, is_right_file, functions_of, has_name, are_distinct, shown_in, are_agreed, calls_only, item_calls_only, is_defined, IsProgram}
+use Rattle.c_nodes.specs.Linking.{Typed, Object, Number, Leads, is_number, Entry, Scope, first_or, is_declared, type_of, ANumber, APointer, Signature, library, Known, at_start, signature_of, address_of, given_by, call_gives, is_call, is_value, kept_if, Step, declared, initialized, on_scope, in_turn, is_right, step, signature, is_right_body, are_right, known_behind, is_right_file, functions_of, has_name, are_distinct, shown_in, are_agreed, calls_only, item_calls_only, is_defined, IsProgram}
 use Rattle.c_nodes.specs.Prelude.{prelude_items}
 use Rattle.c_nodes.proofs.LinkingShapes.{links, callings, type_of-Variable, type_of-Constant, type_of-Address, step-DeclareValue, step-DeclareCall, step-Call, step-Return, step-ReturnValue, step-Block}
 use Rattle.c_nodes.proofs.LinkingPrelude.{prelude_right}
-use Rattle.lf_driver.specs.declared.program.Operator.{Operator}
-use Rattle.lf_driver.specs.declared.program.Operator.TheVariants.{Add, Subtract, Multiply}
+use Rattle.lf_driver.specs.declared.built.Operator.{Operator}
+use Rattle.lf_driver.specs.declared.built.Operator.TheVariants.{Add, Subtract, Multiply}
 use Rattle.lf_driver.specs.Lowered.{temporary, temporary_value, helper, constant, computed, fitted, operation, count, lowered, printing_begins, printing_ends, printed, init_name, main_body, lowered_items, lowered_file}
 use Rattle.lf_driver.specs.Source.{Tree, Literal, Binary, Source}
 use Rattle.lf_driver.proofs.ProgramNames.{no_digit, init_with, decimal_begins}
+use Rattle.lf_driver.proofs.PlainMain.{jumps_of}
 use Rattle.lf_driver.proofs.Temporaries.{Few, other_temporary, same_name}
 
 -- the functions that `main` knows
@@ -29,7 +30,7 @@ abbrev init_signature : List ℕ → Signature
 init_signature init = signature result.Void init []
 
 abbrev before : List Signature
-before = known_behind prelude_items library
+before = (known_behind prelude_items at_start).functions
 
 abbrev known : List ℕ → List Signature
 known init = signature result.Int (codes "main") [] ∷ init_signature init ∷ init_signature init ∷ before
@@ -80,13 +81,24 @@ finds c ds name h = record {
   itself = let init : List ℕ = init_with (c ∷ ds) name in ap (λ b. cond b (Some (init_signature init)) (signature_of init (init_signature init ∷ before))) (same_name init);
 }
 
+-- the scope around `main`
+abbrev outer : Scope
+outer = record { here = []; around = []; structures = [] }
+
+-- what is known behind the prelude, and functions
+abbrev behind_prelude : Known
+behind_prelude = known_behind prelude_items at_start
+
+abbrev known_functions : List Signature → Known
+known_functions functions = record { functions = functions; objects = []; structures = [] }
+
 -- the names of `main` behind so many temporaries
 abbrev entries : ℕ → List Entry
 entries zero = (codes "r1", Object Int64) ∷ []
 entries (suc k) = (temporary (suc k), Object Int64) ∷ entries k
 
 abbrev scope : ℕ → Scope
-scope k = record { here = entries k; around = [] }
+scope k = record { here = entries k; around = []; structures = [] }
 
 new_temporary : (m k : ℕ) → Few m → k < m → is_declared (temporary m) (entries k) ≡ false
 new_temporary m zero few h = refl
@@ -122,8 +134,8 @@ value_typed j m few l h = type_of-Variable (scope m) (temporary j) ∙ temporary
 declares_next : (m k : ℕ) → Few m → m ≡ suc k → declared (temporary m) (Object Int64) (scope k) ≡ Some (scope m)
 declares_next m k few e =
     let new = new_temporary m k few (omega arith) in
-    ap (λ b. cond b None (Some (record { here = (temporary m, Object Int64) ∷ entries k; around = [] }))) new
-    ∙ ap (λ i. Some (record { here = (temporary i, Object Int64) ∷ entries k; around = [] })) e
+    ap (λ b. cond b None (Some (record { here = (temporary m, Object Int64) ∷ entries k; around = []; structures = [] }))) new
+    ∙ ap (λ i. Some (record { here = (temporary i, Object Int64) ∷ entries k; around = []; structures = [] })) e
     ∙ ap (λ i. Some (scope i)) (sym e)
 
 append_by : (xs ys : List Step) → ((s : Scope) → in_turn (xs ++ ys) s ≡ on_scope (in_turn xs s) (in_turn ys)) → (o : Option Scope) → on_scope o (in_turn (xs ++ ys)) ≡ on_scope (on_scope o (in_turn xs)) (in_turn ys)
@@ -221,45 +233,45 @@ module _ (init : List ℕ) (found : Finds init) where
       ∙ run_call (codes "lf_int") (temporary_value k ∷ []) k (Call (codes "putchar") (Constant 10 ∷ []) ∷ []) (ap is_call int)
       ∙ run_call (codes "putchar") (Constant 10 ∷ []) k [] (ap is_call (call_given k (codes "putchar") (Constant 10 ∷ []) putchar_signature (Number ∷ []) (no_putchar k) found.putchar (ap (λ t. t ∷ []) (type_of-Constant (scope k) 10))))
 
-  run_begins : run printing_begins outermost ≡ Some (scope 0)
+  run_begins : run printing_begins outer ≡ Some (scope 0)
   run_begins = let putchar = found.putchar in simp (links, putchar) refl
 
   few_wide : (n : ℕ) → n < 2 ^ 70 → Few n
   few_wide n h = omega (arith, h)
 
-  run_printed : (t : Tree) → count t < 2 ^ 70 → run (printed t) outermost ≡ Some (scope (count t))
+  run_printed : (t : Tree) → count t < 2 ^ 70 → run (printed t) outer ≡ Some (scope (count t))
   run_printed t few =
       let from : 0 + count t ≡ count t = omega arith in
-      run_append (printing_begins ++ lowered t 0) (printing_ends (count t)) outermost (scope (count t)) (run_append printing_begins (lowered t 0) outermost (scope 0) run_begins ∙ run_lowered t 0 (omega (arith, few)) ∙ ap (λ i. Some (scope i)) from)
+      run_append (printing_begins ++ lowered t 0) (printing_ends (count t)) outer (scope (count t)) (run_append printing_begins (lowered t 0) outer (scope 0) run_begins ∙ run_lowered t 0 (omega (arith, few)) ∙ ap (λ i. Some (scope i)) from)
       ∙ run_ends (count t) (few_wide (count t) few) (some t)
 
-  calls_init : call_gives (known init) outermost init [] ≡ Some result.Void
+  calls_init : call_gives (known init) outer init [] ≡ Some result.Void
   calls_init = ap (λ o. given_by o []) found.itself
 
-  body_right : (body : List CStmt) (s : Scope) → run body outermost ≡ Some s → run (Call init [] ∷ Block body ∷ ReturnValue (Constant 0) ∷ []) outermost ≡ Some outermost
+  body_right : (body : List CStmt) (s : Scope) → run body outer ≡ Some s → run (Call init [] ∷ Block body ∷ ReturnValue (Constant 0) ∷ []) outer ≡ Some outer
   body_right body s h =
       let last : List CStmt = ReturnValue (Constant 0) ∷ [] in
-      ap (λ f. on_scope (f.behind outermost) (run (Block body ∷ last))) (step-Call (known init) result.Int init [])
-      ∙ ap (λ r. on_scope (kept_if (is_call r) outermost) (run (Block body ∷ last))) calls_init
-      ∙ ap (λ f. on_scope (f.behind outermost) (run last)) (step-Block (known init) result.Int body)
-      ∙ ap (λ o. on_scope (kept_if (is_right o) outermost) (run last)) h
-      ∙ ap (λ f. on_scope (f.behind outermost) (run [])) (step-ReturnValue (known init) result.Int (Constant 0))
-      ∙ ap (λ t. on_scope (kept_if (is_number t) outermost) (run [])) (type_of-Constant outermost 0)
+      ap (λ f. on_scope (f.behind outer) (run (Block body ∷ last))) (step-Call (known init) result.Int init [])
+      ∙ ap (λ r. on_scope (kept_if (is_call r) outer) (run (Block body ∷ last))) calls_init
+      ∙ ap (λ f. on_scope (f.behind outer) (run last)) (step-Block (known init) result.Int body)
+      ∙ ap (λ o. on_scope (kept_if (is_right o) outer) (run last)) h
+      ∙ ap (λ f. on_scope (f.behind outer) (run [])) (step-ReturnValue (known init) result.Int (Constant 0))
+      ∙ ap (λ t. on_scope (kept_if (is_number t) outer) (run [])) (type_of-Constant outer 0)
 
-return_right : (functions : List Signature) → is_right_body functions result.Void [] (Return ∷ []) ≡ true
-return_right functions = ap (λ f. is_right (on_scope (f.behind outermost) (in_turn []))) (step-Return functions result.Void)
+return_right : (functions : List Signature) → is_right_body (known_functions functions) result.Void [] (Return ∷ []) ≡ true
+return_right functions = ap (λ f. is_right (on_scope (f.behind outer) (in_turn []))) (step-Return functions result.Void)
 
-three_right : (init : List ℕ) (body : List CStmt) → signature_of init before ≡ None → is_right_body (known init) result.Int [] body ≡ true → bytes_eq (codes "main") init ≡ false → are_right (Prototype result.Void init [] ∷ Function false result.Void init [] (Return ∷ []) ∷ Function false result.Int (codes "main") [] body ∷ []) before ≡ true
-three_right init body new right other = simp (new, same_name init, return_right (init_signature init ∷ init_signature init ∷ before), other, right) refl
+three_right : (init : List ℕ) (body : List CStmt) → signature_of init before ≡ None → is_right_body (known_functions (known init)) result.Int [] body ≡ true → bytes_eq (codes "main") init ≡ false → bytes_eq init (codes "stderr") ≡ false → are_right (Prototype result.Void init [] ∷ Function false result.Void init [] (Return ∷ []) ∷ Function false result.Int (codes "main") [] body ∷ []) behind_prelude ≡ true
+three_right init body new right other own = simp (own, new, same_name init, return_right (init_signature init ∷ init_signature init ∷ before), other, right) refl
 
-pub items_linked : (source : Source) → count source.value < 2 ^ 70 → length source.name < 2 ^ 64 → are_right (lowered_items source) before ≡ true
+pub items_linked : (source : Source) → count source.value < 2 ^ 70 → length source.name < 2 ^ 64 → are_right (lowered_items source) behind_prelude ≡ true
 items_linked source few short =
     let d = decimal_begins (length source.name) short in
     let is : init_name source.name ≡ init_with (d.first ∷ d.rest) source.name = ap (λ ds. init_with ds source.name) d.is in
     let new = ap (λ i. signature_of i before) is ∙ unknown d.first d.rest source.name d.small in
     let found = subst Finds (sym is) (finds d.first d.rest source.name d.small) in
     let right = ap is_right (body_right (init_name source.name) found (printed source.value) (scope (count source.value)) (run_printed (init_name source.name) found source.value few)) in
-    three_right (init_name source.name) (main_body source) new right refl
+    three_right (init_name source.name) (main_body source) new right refl refl
 
 pub file_linked : (source : Source) → count source.value < 2 ^ 70 → length source.name < 2 ^ 64 → is_right_file (lowered_file source) ≡ true
 file_linked source few short = prelude_right (lowered_items source) ∙ items_linked source few short
@@ -328,6 +340,12 @@ agreed_of source = simp (same_name (init_name source.name)) refl
 pub linked : (source : Source) → count source.value < 2 ^ 70 → length source.name < 2 ^ 64 → IsProgram (lowered_file source ∷ [])
 linked source few short = record {
   right = ap (λ b. b && true) (file_linked source few short);
+  objects = refl;
+  apart = refl;
+  same = refl;
+  structures = refl;
+  used = ap (λ b. b && true) (file_linked source few short);
+  jumps = ap (λ b. b && true) (jumps_of source);
   once = ap (λ b. b && true) (once_of source short);
   external = refl;
   agreed = agreed_of source;

@@ -2,7 +2,7 @@
 use Rattle.std.proofs.Common.{◌≡◌, ℕ, ◌+◌, ◌-◌, ◌*◌, ◌≤◌, ◌<◌, false, List, [], ◌∷◌, arith}
 use Rattle.std.specs.Prelude.{nat_le}
 use Rattle.std.proofs.lemmas.Bool.Decides.{nat_tests}
-use Rattle.lf_driver.specs.Source.{greatest_literal, value_behind}
+use Rattle.lf_driver.specs.Built.{greatest_literal, value_behind}
 
 greater : (value : ℕ) (digits : List ℕ) → value ≤ value_behind value digits
 greater value [] = omega arith

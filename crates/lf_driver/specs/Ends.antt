@@ -1,7 +1,6 @@
 -- How a call ends: its status, what it leaves in the store, what it writes, and which counts of faults rose.
-use Rattle.std.specs.Prelude.{◌≡◌, ℕ, List, [], ◌∷◌, codes, Option, Some, None, IsSome, Result, Ok, Err}
+use Rattle.std.specs.Prelude.{◌≡◌, ℕ, List, [], ◌∷◌, codes, Option, Some, None, IsSome, true, Result, Ok, Err, ◌⊎◌}
 use Rattle.std.specs.Fmt.{decimal}
-use Rattle.std.specs.FinMap.{insert}
 use Rattle.lf_base.specs.declared.fault.PutFault.{PutFault}
 use Rattle.lf_base.specs.declared.fault.PutFault.TheVariants as put
 use Rattle.lf_base.specs.Causes.{Rose}
@@ -10,8 +9,12 @@ use Rattle.lf_base.specs.Files.{Files}
 use Rattle.lf_base.specs.Rules.{number_of}
 use Rattle.lf_driver.specs.declared.outcome.Outcome.{Outcome}
 use Rattle.lf_driver.specs.declared.outcome.Outcome.TheVariants.{Done, Usage, Absent, Refused, ReadFault, WriteFault, Memory}
-use Rattle.lf_driver.specs.Words.{words_of}
-use Rattle.lf_driver.specs.Verdict.{verdict}
+use Rattle.lf_driver.specs.declared.command.Verb.{Verb}
+use Rattle.lf_driver.specs.declared.command.Verb.TheVariants.{Compile, Ast}
+use Rattle.lf_driver.specs.Compile.{Compiles, FileComesTo}
+use Rattle.lf_driver.specs.Show.{Gains, GainsFront, FileShows}
+use Rattle.lf_driver.specs.Words.{words_of, shows}
+use Rattle.lf_driver.specs.Verdict.{Told, verdict}
 use Rattle.lf_driver.specs.Verdict as judged
 
 abbrev pub status_of : Outcome → ℕ
@@ -33,26 +36,34 @@ text_of ReadFault = codes "lf: read fault\n"
 text_of WriteFault = codes "lf: write fault\n"
 text_of Memory = codes "lf: out of memory\n"
 
--- a fact of the files, where the store tells them
-abbrev pub Told : Option Files → (Files → Type 0) → Type 0
-Told None fact = Unit {0}
-Told (Some files) fact = fact files
+-- what comes of a file by the verb
+abbrev pub VerbComesTo : Outcome → Verb → List ℕ → Option Files → Option Files → Option (List ℕ) → Option (List ℕ) → Type 0
+VerbComesTo came Compile file old new shown shown' = FileComesTo came file old new × (shown' ≡ shown)
+VerbComesTo came Ast file old new shown shown' = FileShows came file old shown shown' × (new ≡ old)
 
--- The C file of the words is among the files, and nothing else has changed.
-abbrev pub Written : List (List ℕ) → Option Files → Files → Type 0
-Written words new files = (name : List ℕ) × (bytes : List ℕ) × (verdict words files ≡ judged.Done name bytes) × (new ≡ Some (insert files name bytes))
+-- The words compile a file: its C file is among the files, and nothing else has changed.
+abbrev pub Writes : List (List ℕ) → Option Files → Option Files → Option (List ℕ) → Option (List ℕ) → Type 0
+Writes words old new shown shown' = (file : List ℕ) × (words_of words ≡ Some (Compile, 0, file ∷ [])) × Told old (λ files. Compiles file files new) × (shown' ≡ shown)
+
+-- The words show a file: the sink has gained the text of its tree, and no file has changed.
+abbrev pub Shows : List (List ℕ) → Option Files → Option Files → Option (List ℕ) → Option (List ℕ) → Type 0
+Shows words old new shown shown' = (shows (words_of words) ≡ true) × (new ≡ old) × Told old (λ files. Gains (verdict words files) shown shown')
+
+-- the sink has gained a front of what the words show
+abbrev pub Fronts : List (List ℕ) → Option Files → Option (List ℕ) → Option (List ℕ) → Type 0
+Fronts words old shown shown' = Told old (λ files. GainsFront (verdict words files) shown shown')
 
 -- what has come of the words: by the verdict, or by a fault, which leaves the files as they were
-abbrev pub ComesTo : Outcome → List (List ℕ) → Option Files → Option Files → Type 0
-ComesTo Done words old new = IsSome (words_of words) × Told old (Written words new)
-ComesTo Usage words old new = (words_of words ≡ None) × (new ≡ old)
-ComesTo (Absent name) words old new = IsSome (words_of words) × (new ≡ old) × Told old (λ files. verdict words files ≡ judged.Absent name.now)
-ComesTo (Refused name line rule) words old new = IsSome (words_of words) × (new ≡ old) × Told old (λ files. verdict words files ≡ judged.Refused name.now line rule)
-ComesTo ReadFault words old new = new ≡ old
-ComesTo WriteFault words old new = new ≡ old
-ComesTo Memory words old new = new ≡ old
+abbrev pub ComesTo : Outcome → List (List ℕ) → Option Files → Option Files → Option (List ℕ) → Option (List ℕ) → Type 0
+ComesTo Done words old new shown shown' = Writes words old new shown shown' ⊎ Shows words old new shown shown'
+ComesTo Usage words old new shown shown' = (words_of words ≡ None) × (new ≡ old) × (shown' ≡ shown)
+ComesTo (Absent name) words old new shown shown' = IsSome (words_of words) × (new ≡ old) × (shown' ≡ shown) × Told old (λ files. verdict words files ≡ judged.Absent name.now)
+ComesTo (Refused name line rule) words old new shown shown' = IsSome (words_of words) × (new ≡ old) × (shown' ≡ shown) × Told old (λ files. verdict words files ≡ judged.Refused name.now line rule)
+ComesTo ReadFault words old new shown shown' = (new ≡ old) × (shown' ≡ shown)
+ComesTo WriteFault words old new shown shown' = (new ≡ old) × Fronts words old shown shown'
+ComesTo Memory words old new shown shown' = (new ≡ old) × Fronts words old shown shown'
 
--- The count of failed reads and the count of failed writes of the store: each rose exactly where that is what came.
+-- A count of failed reads and one of failed writes: each rose exactly where that is what came.
 abbrev pub Counts : Outcome → ℕ → ℕ → ℕ → ℕ → Type 0
 Counts Done reads reads' writes writes' = (reads' ≡ reads) × (writes' ≡ writes)
 Counts Usage reads reads' writes writes' = (reads' ≡ reads) × (writes' ≡ writes)
@@ -61,6 +72,21 @@ Counts (Refused name line rule) reads reads' writes writes' = (reads' ≡ reads)
 Counts ReadFault reads reads' writes writes' = Rose reads reads' × (writes' ≡ writes)
 Counts WriteFault reads reads' writes writes' = (reads' ≡ reads) × Rose writes writes'
 Counts Memory reads reads' writes writes' = (reads' ≡ reads) × (writes' ≡ writes)
+
+-- a write failed in the store or on the sink
+abbrev pub RoseOne : ℕ → ℕ → ℕ → ℕ → Type 0
+RoseOne writes writes' puts puts' = (Rose writes writes' × (puts' ≡ puts)) ⊎ ((writes' ≡ writes) × Rose puts puts')
+
+-- The store's count of failed reads, its count of failed writes, and that of the sink: each rose only where that is what
+-- came.
+abbrev pub CountsAll : Outcome → ℕ → ℕ → ℕ → ℕ → ℕ → ℕ → Type 0
+CountsAll Done reads reads' writes writes' puts puts' = (reads' ≡ reads) × (writes' ≡ writes) × (puts' ≡ puts)
+CountsAll Usage reads reads' writes writes' puts puts' = (reads' ≡ reads) × (writes' ≡ writes) × (puts' ≡ puts)
+CountsAll (Absent name) reads reads' writes writes' puts puts' = (reads' ≡ reads) × (writes' ≡ writes) × (puts' ≡ puts)
+CountsAll (Refused name line rule) reads reads' writes writes' puts puts' = (reads' ≡ reads) × (writes' ≡ writes) × (puts' ≡ puts)
+CountsAll ReadFault reads reads' writes writes' puts puts' = Rose reads reads' × (writes' ≡ writes) × (puts' ≡ puts)
+CountsAll WriteFault reads reads' writes writes' puts puts' = (reads' ≡ reads) × RoseOne writes writes' puts puts'
+CountsAll Memory reads reads' writes writes' puts puts' = (reads' ≡ reads) × (writes' ≡ writes) × (puts' ≡ puts)
 
 -- fronts of two texts, one behind the other
 abbrev pub GainsBoth : Option (List ℕ) → Option (List ℕ) → List ℕ → List ℕ → Type 0

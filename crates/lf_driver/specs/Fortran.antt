@@ -8,8 +8,8 @@ use Rattle.std.specs.Fmt.{signed_decimal}
 use Rattle.std.proofs.Math.IntN.{ℤ}
 use Rattle.lf_base.specs.Outcome.{Place, Meaning, written}
 use Rattle.lf_base.specs.Acts.{Act, bind, give, print, trap, outcome_of}
-use Rattle.lf_driver.specs.declared.program.Operator.{Operator}
-use Rattle.lf_driver.specs.declared.program.Operator.TheVariants.{Add, Subtract, Multiply}
+use Rattle.lf_driver.specs.declared.built.Operator.{Operator}
+use Rattle.lf_driver.specs.declared.built.Operator.TheVariants.{Add, Subtract, Multiply}
 use Rattle.lf_driver.specs.Source.{Tree, Literal, Binary, Source}
 
 -- Each literal is one of kind 4.

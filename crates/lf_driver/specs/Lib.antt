@@ -1,11 +1,12 @@
 pub mod Answers
 pub mod Source
 pub mod Words
-pub mod Parse
+pub mod Built
+pub mod Front
 pub mod Lowered
-pub mod Emit
 pub mod Ends
 pub mod Verdict
 pub mod Compile
+pub mod Show
 pub mod Fortran
 pub mod Headline

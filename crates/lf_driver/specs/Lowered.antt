@@ -1,6 +1,6 @@
 -- The C file that a program is lowered to (ISO/IEC 9899:1999, 6.9), behind the prelude. Values are temporaries `t1`,
 -- `t2` and so on in the order of evaluation, and each operation is checked for the range of kind 4.
-use Rattle.std.specs.Prelude.{ℕ, ◌+◌, false, List, [], ◌∷◌, ◌++◌, length, codes}
+use Rattle.std.specs.Prelude.{ℕ, ◌+◌, false, List, [], ◌∷◌, ◌++◌, length, codes, Option, Some, None}
 use Rattle.std.specs.Fmt.{decimal}
 use Rattle.c_nodes.specs.declared.tree.CType.TheVariants.{Int64}
 use Rattle.c_nodes.specs.declared.tree.CResult.TheVariants.{Void, Int}
@@ -12,8 +12,8 @@ use Rattle.c_nodes.specs.declared.tree.CItem.{CItem}
 use Rattle.c_nodes.specs.declared.tree.CItem.TheVariants.{Prototype, Function}
 use Rattle.c_nodes.specs.declared.tree.CFile.{CFile}
 use Rattle.c_nodes.specs.Prelude.{prelude_file}
-use Rattle.lf_driver.specs.declared.program.Operator.{Operator}
-use Rattle.lf_driver.specs.declared.program.Operator.TheVariants.{Add, Subtract, Multiply}
+use Rattle.lf_driver.specs.declared.built.Operator.{Operator}
+use Rattle.lf_driver.specs.declared.built.Operator.TheVariants.{Add, Subtract, Multiply}
 use Rattle.lf_driver.specs.Source.{Tree, Literal, Binary, Source}
 
 -- the name of the temporary of a number
@@ -78,15 +78,27 @@ init_prototype name = Prototype Void (init_name name) []
 abbrev pub init_function : List ℕ → CItem
 init_function name = Function false Void (init_name name) [] (Return ∷ [])
 
-abbrev pub main_body : Source → List CStmt
-main_body source = Call (init_name source.name) [] ∷ Block (printed source.value) ∷ ReturnValue (Constant 0) ∷ []
+-- the body of `main`, with the statements that print
+abbrev pub body_with : List ℕ → List CStmt → List CStmt
+body_with name statements = Call (init_name name) [] ∷ Block statements ∷ ReturnValue (Constant 0) ∷ []
 
-abbrev pub main_function : Source → CItem
-main_function source = Function false Int (codes "main") [] (main_body source)
+abbrev pub main_with : List ℕ → List CStmt → CItem
+main_with name statements = Function false Int (codes "main") [] (body_with name statements)
 
 -- the items of a program's file behind those of the prelude
+abbrev pub items_with : List ℕ → List CStmt → List CItem
+items_with name statements = init_prototype name ∷ init_function name ∷ main_with name statements ∷ []
+
+abbrev pub main_body : Source → List CStmt
+main_body source = body_with source.name (printed source.value)
+
 abbrev pub lowered_items : Source → List CItem
-lowered_items source = init_prototype source.name ∷ init_function source.name ∷ main_function source ∷ []
+lowered_items source = items_with source.name (printed source.value)
 
 abbrev pub lowered_file : Source → CFile
 lowered_file source = record { items = prelude_file.items ++ lowered_items source }
+
+-- the C file of what is built: the prelude alone, where nothing is
+abbrev pub c_file : Option Source → CFile
+c_file None = prelude_file
+c_file (Some source) = lowered_file source

@@ -1,7 +1,7 @@
 -- The command that a list of words is: a verb, a number and the files.
-use Rattle.std.specs.Prelude.{◌≡◌, ℕ, ◌-◌, Bool, false, List, [], ◌∷◌, length, drop, map, codes, bytes_eq, string_bytes, Option, Some, None, Result, Ok, Err, if◌then◌else◌, ◌==◌, ◌&&◌, not, nat_le}
+use Rattle.std.specs.Prelude.{◌≡◌, ℕ, ◌-◌, Bool, true, false, List, [], ◌∷◌, length, drop, map, codes, bytes_eq, string_bytes, Option, Some, None, Result, Ok, Err, if◌then◌else◌, ◌==◌, ◌&&◌, not, nat_le}
 use Rattle.lf_driver.specs.declared.command.Verb.{Verb}
-use Rattle.lf_driver.specs.declared.command.Verb.TheVariants.{Compile}
+use Rattle.lf_driver.specs.declared.command.Verb.TheVariants.{Compile, Ast}
 use Rattle.lf_driver.specs.declared.command.Command.{Command}
 use Rattle.lf_driver.specs.declared.command.Usage.{Usage}
 
@@ -19,9 +19,16 @@ is_source_name word = nat_le 4 (length word) && nat_le (length word) 255 && not 
 abbrev pub CommandText : Type 0
 CommandText = Verb × ℕ × List (List ℕ)
 
--- `compile` with one source; every other list of words is no command
+abbrev pub verb_of : List ℕ → Option Verb
+verb_of word = if bytes_eq word (codes "compile") then Some Compile else if bytes_eq word (codes "ast") then Some Ast else None
+
+abbrev pub with_file : Option Verb → List ℕ → Option CommandText
+with_file None file = None
+with_file (Some verb) file = if is_source_name file then Some (verb, 0, file ∷ []) else None
+
+-- `compile` or `ast` with one source; every other list of words is no command
 abbrev pub words_of : List (List ℕ) → Option CommandText
-words_of (verb ∷ file ∷ []) = if bytes_eq verb (codes "compile") && is_source_name file then Some (Compile, 0, file ∷ []) else None
+words_of (verb ∷ file ∷ []) = with_file (verb_of verb) file
 words_of words = None
 
 -- a command as its texts
@@ -32,3 +39,12 @@ text_of command = (command.verb, command.number, map string_bytes command.files.
 abbrev pub WordsGive : Result Command Usage → List (List ℕ) → Type 0
 WordsGive (Ok command) words = words_of words ≡ Some (text_of command)
 WordsGive (Err usage) words = words_of words ≡ None
+
+-- whether a command prints the tree of a source
+abbrev pub shown_by : Verb → Bool
+shown_by Compile = false
+shown_by Ast = true
+
+abbrev pub shows : Option CommandText → Bool
+shows None = false
+shows (Some command) = shown_by command.0

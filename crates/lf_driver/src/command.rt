@@ -1,11 +1,13 @@
 ghost use Rattle.std.specs.Prelude.{◌≡◌, map, string_bytes};
-ghost use Rattle.lf_driver.specs.Words.{begins_with_hyphen, is_source_name, WordsGive};
+ghost use Rattle.lf_driver.specs.Words.{begins_with_hyphen, is_source_name, verb_of, WordsGive};
 
 /// What the program is asked to do.
 #[derive(Clone, Copy, Debug, PartialEq, Eq)]
 pub enum Verb {
     /// Compiles each file into the store.
     Compile,
+    /// Prints the tree of a file.
+    Ast,
 }
 
 /// The words of a command line, read.
@@ -36,24 +38,39 @@ fn is_source_name(word: &[u8]) -> bool
     4 <= word.len() && word.len() <= 255 && !begins_with_hyphen(word) && word.ends_with(b".f90")
 }
 
-/// The command that the words are: `compile` with one file. The name of a file ends in `.f90`, does not
-/// begin with `-` and has 4 to 255 bytes. All other words are refused.
+fn verb_named(word: &[u8]) -> Option<Verb>
+    ensures { result ≡ verb_of word.now }
+{
+    if word == b"compile".as_slice() {
+        Some(Verb::Compile)
+    } else if word == b"ast".as_slice() {
+        Some(Verb::Ast)
+    } else {
+        None
+    }
+}
+
+/// The command that the words are: `compile` or `ast` with one file. The name of a file ends in `.f90`, does
+/// not begin with `-` and has 4 to 255 bytes. All other words are refused.
 pub fn words(words: &[String]) -> Result<Command, Usage>
     ensures { WordsGive result (map string_bytes words.now) }
 {
     match words {
-        [verb, files @ ..] => match files {
-            [file] => {
-                if verb.as_str() == "compile" && is_source_name(file.as_bytes()) {
-                    Ok(Command {
-                        verb: Verb::Compile,
-                        number: 0,
-                        files,
-                    })
-                } else {
-                    Err(Usage)
+        [first, files @ ..] => match files {
+            [file] => match verb_named(first.as_bytes()) {
+                Some(verb) => {
+                    if is_source_name(file.as_bytes()) {
+                        Ok(Command {
+                            verb,
+                            number: 0,
+                            files,
+                        })
+                    } else {
+                        Err(Usage)
+                    }
                 }
-            }
+                None => Err(Usage),
+            },
             _ => Err(Usage),
         },
         [] => Err(Usage),

@@ -1,22 +1,18 @@
-ghost use Rattle.std.specs.Prelude.{◌≡◌, true, Ok, map, string_bytes, length, OnOk, OnErr, IfOk};
+ghost use Rattle.std.specs.Prelude.{◌≡◌, true, string_bytes, OnOk, OnErr, IfOk};
 ghost use Rattle.lf_base.specs.Causes.{HasCause};
-ghost use Rattle.ff_lexer.specs.Spans.{spelled_statements};
 ghost use Rattle.c_nodes.specs.Text.{file_text};
 ghost use Rattle.lf_driver.specs.Words.{ends_as_source};
-ghost use Rattle.lf_driver.specs.Source.{program_of};
-ghost use Rattle.lf_driver.specs.Parse.{StatementsWithin, source_of};
-ghost use Rattle.lf_driver.specs.Lowered.{lowered_file};
-ghost use Rattle.lf_driver.specs.Verdict.{c_name, source_in, of_source};
-ghost use Rattle.lf_driver.specs.Ends.{ComesTo, Counts};
-ghost use Rattle.lf_driver.specs.Compile.{Saved, GivesText, TextComesTo, FileComesTo};
+ghost use Rattle.lf_driver.specs.Built.{program_in};
+ghost use Rattle.lf_driver.specs.Verdict.{c_name};
+ghost use Rattle.lf_driver.specs.Ends.{Counts};
+ghost use Rattle.lf_driver.specs.Compile.{GivesC, GivesText, Saved, TextComesTo, FileComesTo};
 
-use crate::command::words as read_words;
-use crate::lower::lower_program;
+use crate::front::read_tree;
 use crate::outcome::Outcome;
-use crate::program::{Program, read_program};
-use c_nodes::print_c;
-use ff_lexer::{Stmt, statements};
-use lf_base::{GetFault, LexFault, Memory, PutFault, Rule, Store, SureSink, SyntaxFault};
+use crate::unit::lower;
+use ast_nodes::File;
+use c_nodes::{CFile, print_c};
+use lf_base::{GetFault, Memory, PutFault, Rule, Store, SureSink, SyntaxFault};
 use std::alloc::Global;
 
 // `.c` in place of `.f90`.
@@ -35,43 +31,36 @@ fn c_name(alloc: Global, file: &str) -> Result<String, Memory>
     }
 }
 
-fn c_text(alloc: Global, program: &Program) -> Result<SureSink, Memory>
-    ensures { IfOk result (λ s. s ≡ file_text (lowered_file (source_of program.now))) }
+fn c_bytes(alloc: Global, file: &CFile) -> Result<SureSink, Memory>
+    ensures { IfOk result (λ s. s ≡ file_text file.now) }
 {
-    let file = lower_program(alloc, program)?;
     let mut sink = SureSink::new(alloc)?;
-    match print_c(&file, &mut sink) {
+    match print_c(file, &mut sink) {
         Ok(()) => Ok(sink),
         Err(_) => Err(Memory),
     }
 }
 
-fn translated_statements(
-    alloc: Global,
-    source: &[u8],
-    stmts: &[Stmt],
-) -> Result<SureSink, SyntaxFault>
-    requires { StatementsWithin (length source.now) stmts.now }
-    ensures { GivesText (λ s. s) result (program_of (spelled_statements source.now stmts.now)) }
+fn c_text(alloc: Global, file: &File) -> Result<SureSink, SyntaxFault>
+    ensures { GivesC result (program_in file.now) }
 {
-    match read_program(alloc, source, stmts) {
-        Ok(program) => match c_text(alloc, &program) {
+    match lower(alloc, file) {
+        Ok(file) => match c_bytes(alloc, &file) {
             Ok(text) => Ok(text),
-            Err(_) => Err(SyntaxFault::Memory),
+            Err(Memory) => Err(SyntaxFault::Memory),
         },
         Err(fault) => Err(fault),
     }
 }
 
 // The text of the C file of a source.
-#[tactic(auto, using(crate::proofs::Within::statements_within))]
+#[tactic(auto, using(crate::proofs::Saving::compiled, crate::proofs::Saving::not_built, crate::proofs::Saving::not_parsed))]
 fn translated(alloc: Global, source: &[u8]) -> Result<SureSink, SyntaxFault>
-    ensures { GivesText (λ s. s) result (source_in source.now) }
+    ensures { GivesText result source.now }
 {
-    match statements(alloc, source) {
-        Ok(stmts) => translated_statements(alloc, source, stmts.as_slice()),
-        Err(LexFault::At { line, rule }) => Err(SyntaxFault::At { line, rule }),
-        Err(LexFault::Memory) => Err(SyntaxFault::Memory),
+    match read_tree(alloc, source) {
+        Ok(file) => c_text(alloc, &file),
+        Err(fault) => Err(fault),
     }
 }
 
@@ -114,7 +103,7 @@ fn finish_file<'a, S: Store>(
     store: &mut S,
 ) -> Outcome<'a>
     requires { ends_as_source file.now ≡ true }
-    ensures comes { TextComesTo result (of_source file.now (source_in bytes.now)) (S.files store.old) (S.files store.new) }
+    ensures comes { TextComesTo result file.now bytes.now (S.files store.old) (S.files store.new) }
     ensures counts { Counts result (S.read_faults store.old) (S.read_faults store.new) (S.Sink.faults store.old) (S.Sink.faults store.new) }
 {
     match translated(alloc, bytes) {
@@ -132,9 +121,9 @@ fn finish_file<'a, S: Store>(
     }
 }
 
-// What comes of a file of this name.
+/// What comes of a file of this name. The files of the store change only where it is `Done`.
 #[tactic(auto, using(crate::proofs::Saving::too_long, crate::proofs::Saving::none_there, crate::proofs::Saving::text_there, crate::proofs::Saving::counts_after))]
-fn compile_file<'a, S: Store>(alloc: Global, file: &'a str, store: &mut S) -> Outcome<'a>
+pub(crate) fn compile_file<'a, S: Store>(alloc: Global, file: &'a str, store: &mut S) -> Outcome<'a>
     requires { ends_as_source file.now ≡ true }
     ensures comes { FileComesTo result file.now (S.files store.old) (S.files store.new) }
     ensures counts { Counts result (S.read_faults store.old) (S.read_faults store.new) (S.Sink.faults store.old) (S.Sink.faults store.new) }
@@ -149,24 +138,5 @@ fn compile_file<'a, S: Store>(alloc: Global, file: &'a str, store: &mut S) -> Ou
         },
         Err(GetFault::Failed) => Outcome::ReadFault,
         Err(GetFault::Memory) => Outcome::Memory,
-    }
-}
-
-/// What comes of the words. The files of the store change only where it is `Done`.
-#[tactic(auto, using(crate::proofs::Saving::comes_to, crate::proofs::Saving::command_files))]
-pub(crate) fn compile<'a, S: Store>(
-    alloc: Global,
-    words: &'a [String],
-    store: &mut S,
-) -> Outcome<'a>
-    ensures comes { ComesTo result (map string_bytes words.now) (S.files store.old) (S.files store.new) }
-    ensures counts { Counts result (S.read_faults store.old) (S.read_faults store.new) (S.Sink.faults store.old) (S.Sink.faults store.new) }
-{
-    match read_words(words) {
-        Err(_) => Outcome::Usage,
-        Ok(command) => match command.files {
-            [file, ..] => compile_file(alloc, file.as_str(), store),
-            [] => Outcome::Usage,
-        },
     }
 }

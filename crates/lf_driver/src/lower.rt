@@ -1,34 +1,20 @@
-ghost use Rattle.std.specs.Prelude.{◌≡◌, ℕ, ◌+◌, ◌-◌, ◌≤◌, List, [], ◌∷◌, ◌++◌, length, codes, IfOk, OnOk, Option, Some, None};
+ghost use Rattle.std.specs.Prelude.{◌≡◌, ℕ, ◌+◌, List, [], ◌∷◌, ◌++◌, length, codes, IfOk, OnOk};
 ghost use Rattle.std.specs.Fmt.{decimal};
-ghost use Rattle.lf_driver.specs.Source.{tree_of};
-ghost use Rattle.lf_driver.specs.Parse.{operations, operation_of, source_of};
-ghost use Rattle.lf_driver.specs.Lowered.{temporary, temporary_value, helper, constant, computed, fitted, operation, count, lowered, printing_begins, printing_ends, printed, unit_name, init_name, init_prototype, init_function, main_body, main_function, lowered_items, lowered_file};
+ghost use Rattle.c_nodes.specs.Prelude.{prelude_file};
 ghost use Rattle.c_nodes.specs.declared.tree.CType.TheVariants.{Int64};
 ghost use Rattle.c_nodes.specs.declared.tree.CStmt.TheVariants.{DeclareCall, DeclareValue, Call};
 ghost use Rattle.c_nodes.specs.declared.tree.CExpr.TheVariants.{Variable, Constant, Address};
-ghost use Rattle.lf_driver.specs.Emit.{added, added_count, total, sum_of, partial_of, step, step_to, step_count, emitted, emitted_count};
+ghost use Rattle.lf_driver.specs.Built.{literal_of, literal_tree, tree_in};
+ghost use Rattle.lf_driver.specs.Compile.{Emits, EmitsPrint};
+ghost use Rattle.lf_driver.specs.Lowered.{temporary, temporary_value, helper, constant, computed, fitted, operation, printing_begins, printing_ends, unit_name, init_name, init_prototype, init_function, body_with, main_with, items_with};
 
-use crate::program::{Operand, Operator, Program};
+use crate::built::{Operator, literal, operator_of};
+use ast_nodes::Expr;
 use c_nodes::{CExpr, CFile, CItem, CResult, CStmt, CType, prelude};
 use itoa::Buffer;
 use lf_base::{Memory, Name};
 use sqlite_items::{Boxed, Items};
 use std::alloc::Global;
-
-/// The sum before a term: the operator between them, and the number of the temporary that has the sum.
-#[derive(Clone, Copy)]
-struct Sum {
-    pub operator: Operator,
-    pub value: usize,
-}
-
-/// A value that is partly lowered: the sum before the last term, and the number of the temporary that has
-/// the term.
-#[derive(Clone, Copy)]
-struct Partial {
-    pub sum: Option<Sum>,
-    pub term: usize,
-}
 
 fn temporary(alloc: Global, number: usize) -> Result<Name, Memory>
     ensures { IfOk result (λ n. n ≡ temporary number) }
@@ -199,131 +185,64 @@ fn emit_operation(
     Ok(checked)
 }
 
-// The sum and the term behind it together: the number of the temporary that has them, which is the last
-// one unless there is no sum.
-fn emit_added(
+fn emit_literal(
     alloc: Global,
     body: &mut Items<CStmt>,
-    partial: Partial,
+    digits: &[u8],
+    suffix: u8,
     behind: usize,
-) -> Result<(usize, usize), Memory>
-    ensures body { OnOk result (body.new ≡ body.old ++ added partial.sum partial.term behind) }
-    ensures count { IfOk result (λ r. (r.0 ≡ total partial.sum partial.term behind) × (r.1 ≡ behind + added_count partial.sum)) }
+) -> Result<Option<usize>, Memory>
+    ensures { Emits result (literal_tree (literal_of digits.now suffix)) behind body.old body.new }
 {
-    match partial.sum {
-        None => Ok((partial.term, behind)),
-        Some(sum) => {
-            let number = emit_operation(
-                alloc,
-                body,
-                sum.operator,
-                sum.value,
-                partial.term,
-                behind,
-            )?;
-            Ok((number, number))
+    match literal(digits, suffix) {
+        None => Ok(None),
+        Some(value) => match emit_constant(alloc, body, behind, value) {
+            Ok(number) => Ok(Some(number)),
+            Err(Memory) => Err(Memory),
+        },
+    }
+}
+
+// The statements of a value, behind so many temporaries: the number of the last one, which has it. A value
+// is as deep as a tree may be.
+fn emit(
+    alloc: Global,
+    body: &mut Items<CStmt>,
+    value: &Expr,
+    behind: usize,
+) -> Result<Option<usize>, Memory>
+    ensures { Emits result (tree_in value.now) behind body.old body.new }
+{
+    match value {
+        Expr::Int { digits, suffix } => {
+            emit_literal(alloc, body, digits.as_slice(), *suffix, behind)
         }
+        Expr::Binary {
+            operator,
+            left,
+            right,
+        } => {
+            let Some(operator) = operator_of(*operator) else {
+                return Ok(None);
+            };
+            let Some(left) = emit(alloc, body, left.get(), behind)? else {
+                return Ok(None);
+            };
+            let Some(right) = emit(alloc, body, right.get(), left)? else {
+                return Ok(None);
+            };
+            let number = emit_operation(alloc, body, operator, left, right, right)?;
+            Ok(Some(number))
+        }
+        Expr::Log { .. }
+        | Expr::Char { .. }
+        | Expr::Ref { .. }
+        | Expr::Triple { .. }
+        | Expr::Unary { .. }
+        | Expr::Paren { .. }
+        | Expr::Array { .. }
+        | Expr::Loop { .. } => Ok(None),
     }
-}
-
-fn emit_product(
-    alloc: Global,
-    body: &mut Items<CStmt>,
-    partial: Partial,
-    behind: usize,
-    value: u64,
-) -> Result<(Partial, usize), Memory>
-    ensures body { OnOk result (body.new ≡ body.old ++ step partial behind (Operator.Multiply, value)) }
-    ensures count { IfOk result (λ r. (r.0 ≡ step_to partial behind (Operator.Multiply, value)) × (r.1 ≡ behind + 3)) }
-{
-    let factor = emit_constant(alloc, body, behind, value)?;
-    let term = emit_operation(
-        alloc,
-        body,
-        Operator::Multiply,
-        partial.term,
-        factor,
-        factor,
-    )?;
-    Ok((
-        Partial {
-            sum: partial.sum,
-            term,
-        },
-        term,
-    ))
-}
-
-fn emit_sum(
-    alloc: Global,
-    body: &mut Items<CStmt>,
-    partial: Partial,
-    behind: usize,
-    operator: Operator,
-    value: u64,
-) -> Result<(Partial, usize), Memory>
-    ensures body { OnOk result (body.new ≡ body.old ++ (added partial.sum partial.term behind ++ constant (behind + added_count partial.sum + 1) value ∷ [])) }
-    ensures count { IfOk result (λ r. (r.0 ≡ partial_of (Some (sum_of operator (total partial.sum partial.term behind))) (behind + added_count partial.sum + 1)) × (r.1 ≡ behind + added_count partial.sum + 1)) }
-{
-    let (sum, behind) = emit_added(alloc, body, partial, behind)?;
-    let term = emit_constant(alloc, body, behind, value)?;
-    Ok((
-        Partial {
-            sum: Some(Sum {
-                operator,
-                value: sum,
-            }),
-            term,
-        },
-        term,
-    ))
-}
-
-// One more operation.
-fn emit_step(
-    alloc: Global,
-    body: &mut Items<CStmt>,
-    partial: Partial,
-    behind: usize,
-    operand: &Operand,
-) -> Result<(Partial, usize), Memory>
-    ensures body { OnOk result (body.new ≡ body.old ++ step partial behind (operation_of operand.now)) }
-    ensures count { IfOk result (λ r. (r.0 ≡ step_to partial behind (operation_of operand.now)) × (r.1 ≡ behind + step_count partial (operation_of operand.now))) }
-{
-    match operand.operator {
-        Operator::Multiply => emit_product(alloc, body, partial, behind, operand.value),
-        Operator::Add => emit_sum(alloc, body, partial, behind, Operator::Add, operand.value),
-        Operator::Subtract => emit_sum(
-            alloc,
-            body,
-            partial,
-            behind,
-            Operator::Subtract,
-            operand.value,
-        ),
-    }
-}
-
-// The operations of a value, behind so many temporaries: the number of the temporary that has the value.
-fn emit_all(
-    alloc: Global,
-    body: &mut Items<CStmt>,
-    partial: Partial,
-    behind: usize,
-    operands: &[Operand],
-) -> Result<usize, Memory>
-    ensures body { OnOk result (body.new ≡ body.old ++ emitted partial behind (operations operands.now)) }
-    ensures count { IfOk result (λ n. n ≡ emitted_count partial behind (operations operands.now)) }
-{
-    let mut partial = partial;
-    let mut behind = behind;
-    for operand in operands {
-        let (further, last) = emit_step(alloc, body, partial, behind, operand)?;
-        partial = further;
-        behind = last;
-    }
-    let (_, last) = emit_added(alloc, body, partial, behind)?;
-    Ok(last)
 }
 
 fn named(alloc: Global, name: &[u8]) -> Result<CExpr, Memory>
@@ -408,29 +327,18 @@ fn end_printing(alloc: Global, body: &mut Items<CStmt>, number: usize) -> Result
     push(body, stmt)
 }
 
-// The statements of a value, which the last temporary has.
-#[tactic(auto, using(crate::proofs::Lowers::value_emitted, crate::proofs::Lowers::count_is))]
-fn emit_value(
-    alloc: Global,
-    body: &mut Items<CStmt>,
-    first: u64,
-    rest: &[Operand],
-) -> Result<usize, Memory>
-    ensures body { OnOk result (body.new ≡ body.old ++ lowered (tree_of (first, operations rest.now)) 0) }
-    ensures count { IfOk result (λ n. n ≡ count (tree_of (first, operations rest.now))) }
-{
-    let term = emit_constant(alloc, body, 0, first)?;
-    let number = emit_all(alloc, body, Partial { sum: None, term }, term, rest)?;
-    Ok(number)
-}
-
-fn print_value(alloc: Global, program: &Program) -> Result<Items<CStmt>, Memory>
-    ensures { IfOk result (λ b. b ≡ printed (source_of program.now).value) }
+// The statements that print a value, if it is built.
+pub(crate) fn print_value(alloc: Global, value: &Expr) -> Result<Option<Items<CStmt>>, Memory>
+    ensures { EmitsPrint result (tree_in value.now) }
 {
     let mut body = begin_printing(alloc)?;
-    let number = emit_value(alloc, &mut body, program.first, program.rest.as_slice())?;
-    end_printing(alloc, &mut body, number)?;
-    Ok(body)
+    match emit(alloc, &mut body, value, 0)? {
+        None => Ok(None),
+        Some(number) => {
+            end_printing(alloc, &mut body, number)?;
+            Ok(Some(body))
+        }
+    }
 }
 
 fn append(text: &mut Vec<u8>, more: &[u8]) -> Result<(), Memory>
@@ -499,14 +407,13 @@ fn call_init(alloc: Global, name: &[u8]) -> Result<CStmt, Memory>
     })
 }
 
-fn main_body(alloc: Global, program: &Program) -> Result<Items<CStmt>, Memory>
-    ensures { IfOk result (λ b. b ≡ main_body (source_of program.now)) }
+fn main_body(alloc: Global, name: &[u8], statements: Items<CStmt>) -> Result<Items<CStmt>, Memory>
+    ensures { IfOk result (λ b. b ≡ body_with name.now statements) }
 {
     let mut body = Items::new(alloc);
-    let stmt = call_init(alloc, program.name)?;
+    let stmt = call_init(alloc, name)?;
     push(&mut body, stmt)?;
-    let printed = print_value(alloc, program)?;
-    push(&mut body, CStmt::Block { body: printed })?;
+    push(&mut body, CStmt::Block { body: statements })?;
     push(
         &mut body,
         CStmt::ReturnValue {
@@ -516,11 +423,11 @@ fn main_body(alloc: Global, program: &Program) -> Result<Items<CStmt>, Memory>
     Ok(body)
 }
 
-fn main_function(alloc: Global, program: &Program) -> Result<CItem, Memory>
-    ensures { IfOk result (λ i. i ≡ main_function (source_of program.now)) }
+fn main_function(alloc: Global, name: &[u8], statements: Items<CStmt>) -> Result<CItem, Memory>
+    ensures { IfOk result (λ i. i ≡ main_with name.now statements) }
 {
+    let body = main_body(alloc, name, statements)?;
     let name = Name::new(alloc, b"main")?;
-    let body = main_body(alloc, program)?;
     Ok(CItem::Function {
         is_static: false,
         result: CResult::Int,
@@ -539,22 +446,32 @@ fn push_item(items: &mut Items<CItem>, item: CItem) -> Result<(), Memory>
     }
 }
 
-fn push_program(alloc: Global, items: &mut Items<CItem>, program: &Program) -> Result<(), Memory>
-    ensures { OnOk result (items.new ≡ items.old ++ lowered_items (source_of program.now)) }
+fn push_program(
+    alloc: Global,
+    items: &mut Items<CItem>,
+    name: &[u8],
+    statements: Items<CStmt>,
+) -> Result<(), Memory>
+    ensures { OnOk result (items.new ≡ items.old ++ items_with name.now statements) }
 {
-    let item = init_prototype(alloc, program.name)?;
+    let main = main_function(alloc, name, statements)?;
+    let item = init_prototype(alloc, name)?;
     push_item(items, item)?;
-    let item = init_function(alloc, program.name)?;
+    let item = init_function(alloc, name)?;
     push_item(items, item)?;
-    let item = main_function(alloc, program)?;
-    push_item(items, item)
+    push_item(items, main)
 }
 
-/// The C file of a program: the prelude, and behind it the program's own functions.
-pub(crate) fn lower_program(alloc: Global, program: &Program) -> Result<CFile, Memory>
-    ensures { IfOk result (λ f. f ≡ lowered_file (source_of program.now)) }
+/// The C file of a program: the prelude, and behind it the program's own functions. Its statements are those
+/// that print.
+pub(crate) fn program_file(
+    alloc: Global,
+    name: &[u8],
+    statements: Items<CStmt>,
+) -> Result<CFile, Memory>
+    ensures { IfOk result (λ f. f ≡ record { items = prelude_file.items ++ items_with name.now statements }) }
 {
     let mut file = prelude(alloc)?;
-    push_program(alloc, &mut file.items, program)?;
+    push_program(alloc, &mut file.items, name, statements)?;
     Ok(file)
 }

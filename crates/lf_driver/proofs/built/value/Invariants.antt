@@ -1,6 +1,6 @@
 use Rattle.std.proofs.Common.{◌≡◌, ◌≤◌, drop}
-use Rattle.lf_driver.specs.Source.{value_behind}
-use Rattle.lf_driver.proofs.program.value.Given as goal
+use Rattle.lf_driver.specs.Built.{value_behind}
+use Rattle.lf_driver.proofs.built.value.Given as goal
 
 abbrev pub invariant-loop-digit : goal.invariant-loop-digit
 invariant-loop-digit l = record {

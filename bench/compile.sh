@@ -1,6 +1,7 @@
 #!/bin/sh
 # Prints the time and the greatest memory of the built compiler on the example of a sum, and beside them those of
-# `gfortran -fsyntax-only` on the same file. It is no part of the gate.
+# `gfortran -fsyntax-only` on the same file; and then the times of statements of ever more continuations, which grow
+# with the number of their literals. It is no part of the gate.
 set -eu
 top=$(cd "$(dirname "$0")/.." && pwd)
 program=${LFORTRAN_CLI:-$top/crates/lfortran_cli/out/lfortran_cli}
@@ -53,7 +54,41 @@ def row(name, tool, words):
     print(f"{name:32} {found[0] * 1000:10.2f} ms {found[1]:10} KB")
 
 
+def literals(count):
+    """So many literals: products of rising length, added up so that no value is deeper than 256 operations."""
+    lengths = []
+    while count > 0:
+        length = min(count, 250 - len(lengths))
+        lengths.append(length)
+        count -= length
+    return "+".join("*".join(["1"] * length) for length in reversed(lengths))
+
+
+def continued(continuations):
+    """A program that prints one value over so many continuations, and the number of its literals."""
+    value = literals(64 * (continuations + 1))
+    lines = [value[at : at + 128] for at in range(0, len(value), 128)]
+    return "program p\nprint *, &\n&" + "&\n&".join(lines) + "\nend program p\n", (len(value) + 1) // 2
+
+
+def growth(tool):
+    before = None
+    for continuations in (1, 30, 62, 126, 253):
+        source, count = continued(continuations)
+        with open("long.f90", "w") as file:
+            file.write(source)
+        found = measured([tool, "compile", "long.f90"])
+        if found is None:
+            print("a long statement was refused")
+            return
+        fold = "" if before is None else f" {found[0] / before:6.2f}-fold"
+        print(f"{f'{count} literals, {source.count(chr(10)) - 3} continuations':32} {found[0] * 1000:10.2f} ms {found[1]:10} KB{fold}")
+        before = found[0]
+
+
 print(f"{'of ' + str(RUNS) + ' runs':32} {'least time':>13} {'most memory':>13}")
 row("lfortran_cli compile p1.f90", sys.argv[1], ["compile", "p1.f90"])
 row("gfortran -fsyntax-only p1.f90", shutil.which("gfortran"), ["-fsyntax-only", "p1.f90"])
+if os.access(sys.argv[1], os.X_OK):
+    growth(sys.argv[1])
 PYTHON

@@ -1,56 +1,9 @@
-use lf_base::{MemStore, Memory, SureSink, SureSource, SureStore};
+use crate::run::{failed, ran, text};
+use lf_base::{MemStore, SureSink, SureSource};
 use lf_driver::lf_main;
 use std::alloc::{AllocError, Global};
+use std::process::Abort;
 use std::test::Fail;
-
-// What a call of `compile` leaves: its status, the texts on `out` and `err`, and the C file.
-#[derive(Drop)]
-struct Left {
-    status: u8,
-    out: SureSink,
-    err: SureSink,
-    store: SureStore,
-}
-
-fn failed(_: Memory) -> AllocError {
-    AllocError
-}
-
-fn text(alloc: Global, words: &[&str]) -> Result<Vec<String>, AllocError> {
-    let mut all = Vec::new(alloc);
-    for word in words {
-        all.push(String::from_str(alloc, word)?)?;
-    }
-    Ok(all)
-}
-
-fn ran(alloc: Global, words: &[&str], name: &str, source: &[u8]) -> Result<Left, AllocError> {
-    let mut files = Vec::new(alloc);
-    let file = (
-        String::from_str(alloc, name)?,
-        Vec::from_slice(alloc, source)?,
-    );
-    files.push(file)?;
-    let mut store = SureStore::new(alloc, files).map_err(failed)?;
-    let words = text(alloc, words)?;
-    let mut input = SureSource::new(Vec::new(alloc));
-    let mut out = SureSink::new(alloc).map_err(failed)?;
-    let mut err = SureSink::new(alloc).map_err(failed)?;
-    let status = lf_main(
-        alloc,
-        words.as_slice(),
-        &mut store,
-        &mut input,
-        &mut out,
-        &mut err,
-    );
-    Ok(Left {
-        status,
-        out,
-        err,
-        store,
-    })
-}
 
 // The sum and the product of three literals, behind the prelude.
 const SUM: &str = "void lf_1_p_init(void);
@@ -148,9 +101,23 @@ fn a_program_becomes_its_c_file(rt: HostRuntime) -> Result<(), Fail> {
     Ok(())
 }
 
+// What `compile p1.f90` answers to each source: the status, and the text on `err`. A C file comes with status 0 alone.
+fn answers(rt: &impl Abort, alloc: Global, cases: &[(&str, u8, &str)]) -> Result<(), Fail> {
+    for (source, status, told) in cases {
+        let left = ran(alloc, &["compile", "p1.f90"], "p1.f90", source.as_bytes())?;
+        assert_eq!(rt; left.status, *status, "at {source}");
+        assert_eq!(rt; left.err.bytes(), told.as_bytes(), "at {source}");
+        assert!(rt; left.out.bytes().is_empty(), "at {source}");
+        assert!(rt;
+            left.store.file("p1.c").is_some() == (*status == 0),
+            "at {source}"
+        );
+    }
+    Ok(())
+}
+
 #[test]
-fn each_refusal_names_its_line(rt: HostRuntime) -> Result<(), Fail> {
-    let alloc = rt.alloc();
+fn any_spelling_is_compiled(rt: HostRuntime) -> Result<(), Fail> {
     let cases = [
         ("program p\nprint *, 2+3*4\nend program p\n", 0, ""),
         ("program p\nprint *, 2147483647\nend program\n", 0, ""),
@@ -159,97 +126,118 @@ fn each_refusal_names_its_line(rt: HostRuntime) -> Result<(), Fail> {
             0,
             "",
         ),
-        // a literal that kind 4 does not hold
+        ("program p\nprint *, 1\nend\n", 0, ""),
+        ("PROGRAM P\nPrint *, 1_4\nEnd Program p\n", 0, ""),
+        ("program p\r\nprint *, 1\r\nend program\r\n", 0, ""),
         (
-            "program p\nprint *, 2+3*2147483648\nend program p\n",
+            "program p; print *, 2 & ! two\n\n  & + 3; endprogram p\n",
+            0,
+            "",
+        ),
+        ("program p\nprint *, 1\ncontains\nend\n", 0, ""),
+        ("! nothing\n\n", 0, ""),
+    ];
+    answers(&rt, rt.alloc(), &cases)
+}
+
+#[test]
+fn a_form_that_is_not_built_is_told_at_its_line(rt: HostRuntime) -> Result<(), Fail> {
+    let cases = [
+        (
+            "program p\nprint *, 2+3*2147483648\nend\n",
             1,
             "p1.f90:2: E202\n",
         ),
-        // fewer than three statements
-        ("", 1, "p1.f90:1: E202\n"),
-        ("\n\n\nprogram p\n", 1, "p1.f90:4: E202\n"),
-        ("program p\n\nprint *, 1\n", 1, "p1.f90:3: E202\n"),
-        // a fourth one
+        ("program p\nprint *, 1_8\nend\n", 1, "p1.f90:2: E202\n"),
+        ("program p\nprint *, -1\nend\n", 1, "p1.f90:2: E202\n"),
+        ("program p\nprint *, (1)\nend\n", 1, "p1.f90:2: E202\n"),
+        ("program p\nprint *, 1/1\nend\n", 1, "p1.f90:2: E202\n"),
+        ("program p\nprint *, x\nend\n", 1, "p1.f90:2: E202\n"),
+        ("program p\nprint *, 1, 2\nend\n", 1, "p1.f90:2: E202\n"),
+        ("program p\nprint *\nend\n", 1, "p1.f90:2: E202\n"),
+        ("program p\nprint '(I0)', 1\nend\n", 1, "p1.f90:2: E202\n"),
         (
-            "program p\nprint *, 1\nend program p\n\nprint *, 2\n",
+            "program p\n\nprint *, 1\nprint *, 2\nend\n",
             1,
-            "p1.f90:5: E202\n",
+            "p1.f90:4: E202\n",
         ),
-        // not in their form
-        ("program\nprint *, 1\nend program\n", 1, "p1.f90:1: E202\n"),
         (
-            "program p q\nprint *, 1\nend program\n",
+            "program p\nprint *, 1; print *, -2\nend\n",
             1,
-            "p1.f90:1: E202\n",
+            "p1.f90:2: E202\n",
         ),
-        ("program p\nprint *,\nend program\n", 1, "p1.f90:2: E202\n"),
+        ("program p\nx = 1\nprint *, 1\nend\n", 1, "p1.f90:2: E202\n"),
+        ("program p\nprint *, 1\nx = 1\nend\n", 1, "p1.f90:3: E202\n"),
+        ("\nprogram p\nend program p\n", 1, "p1.f90:2: E202\n"),
         (
-            "program p\nprint *, -1\nend program\n",
+            "program p\ninteger :: x\nprint *, 1\nend\n",
             1,
             "p1.f90:2: E202\n",
         ),
         (
-            "program p\nprint *, 1 +\nend program\n",
+            "program p\nprint *, 1\ncontains\nsubroutine s\nend\nend\n",
             1,
-            "p1.f90:2: E202\n",
+            "p1.f90:4: E202\n",
         ),
+        ("module m\nend module m\n", 1, "p1.f90:1: E202\n"),
         (
-            "program p\nprint *, 1 2\nend program\n",
+            "program p\nprint *, 1\nend\nmodule m\nend\n",
             1,
-            "p1.f90:2: E202\n",
+            "p1.f90:4: E202\n",
         ),
+    ];
+    answers(&rt, rt.alloc(), &cases)
+}
+
+#[test]
+fn each_phase_comes_before_the_next(rt: HostRuntime) -> Result<(), Fail> {
+    let cases = [
+        // bytes that begin no token, wherever they are, before statements in no form
+        ("program _p\nprint *, 1\nend\n", 1, "p1.f90:1: E101\n"),
         (
-            "program p\nprint *, x\nend program\n",
+            "print *,\nprogram p\nend program $\n",
             1,
-            "p1.f90:2: E202\n",
+            "p1.f90:3: E101\n",
         ),
+        // statements in no form or out of place before forms that are not built
         (
-            "program p\nprint *, 1\nend program q\n",
+            "program p\nprint *, x\nprint *,\nend\n",
             1,
-            "p1.f90:3: E202\n",
+            "p1.f90:3: E201\n",
         ),
-        ("program p\nprint *, 1\nend\n", 1, "p1.f90:3: E202\n"),
-        (
-            "program p\nprint *, 1\nend program p p\n",
-            1,
-            "p1.f90:3: E202\n",
-        ),
-        // a byte that begins no token is told before all of these
         (
             "print *, 1\nprogram p\nend program (\n",
             1,
-            "p1.f90:3: E202\n",
+            "p1.f90:1: E203\n",
+        ),
+        ("program\nprint *, 1\nend\n", 1, "p1.f90:1: E201\n"),
+        ("program p q\nprint *, 1\nend\n", 1, "p1.f90:1: E201\n"),
+        ("program p\nprint *, 1 +\nend\n", 1, "p1.f90:2: E201\n"),
+        (
+            "program p\nprint *, 1\nend program q\n",
+            1,
+            "p1.f90:3: E205\n",
         ),
         (
-            "program P\nprint *, 1\nend program\n",
+            "program p\nprint *, 1\nend program p\n\nprint *, 2\n",
             1,
-            "p1.f90:1: E202\n",
+            "p1.f90:5: E203\n",
         ),
-        (
-            "program _p\nprint *, 1\nend program\n",
-            1,
-            "p1.f90:1: E202\n",
-        ),
-        (
-            "program p\nprint *, 1_4\nend program\n",
-            1,
-            "p1.f90:2: E202\n",
-        ),
-        (
-            "program p\r\nprint *, 1\r\nend program\r\n",
-            1,
-            "p1.f90:1: E202\n",
-        ),
+        ("\n\n\nprogram p\n", 1, "p1.f90:4: E204\n"),
     ];
-    for (source, status, told) in cases {
-        let left = ran(alloc, &["compile", "p1.f90"], "p1.f90", source.as_bytes())?;
-        assert_eq!(rt; left.status, status, "at {source}");
-        assert_eq!(rt; left.err.bytes(), told.as_bytes(), "at {source}");
-        assert!(rt;
-            left.store.file("p1.c").is_some() == (status == 0),
-            "at {source}"
-        );
-    }
+    answers(&rt, rt.alloc(), &cases)
+}
+
+#[test]
+fn a_file_without_units_is_the_prelude_alone(rt: HostRuntime) -> Result<(), Fail> {
+    let alloc = rt.alloc();
+    let left = ran(alloc, &["compile", "e.f90"], "e.f90", b"")?;
+    assert_eq!(rt; left.status, 0);
+    let c = left.store.file("e.c").unwrap_or(b"");
+    let front = c.strip_suffix(FOOT.as_bytes()).unwrap_or(b"");
+    assert!(rt; front.starts_with(HEAD.as_bytes()));
+    // the last helper begins and ends once
+    assert!(rt; front.ends_with(b"return 0;\n}\n"));
     Ok(())
 }
 
@@ -273,8 +261,8 @@ fn lines_and_names_have_limits(rt: HostRuntime) -> Result<(), Fail> {
     // 8 bytes and 62 times 2 make a line of 132
     let cases = [
         (62, 63, 0, ""),
-        (63, 63, 1, "p1.f90:2: E202\n"),
-        (62, 64, 1, "p1.f90:1: E202\n"),
+        (63, 63, 1, "p1.f90:2: E103\n"),
+        (62, 64, 1, "p1.f90:1: E105\n"),
     ];
     for (ones, letters, status, told) in cases {
         let source = long_source(alloc, ones, letters)?;
@@ -290,13 +278,17 @@ const USAGE: &str = "lf: usage: COMMAND [--turns=N] FILE ...\n";
 #[test]
 fn other_words_are_refused(rt: HostRuntime) -> Result<(), Fail> {
     let alloc = rt.alloc();
-    let cases: [(&[&str], &str); 8] = [
+    let cases: [(&[&str], &str); 12] = [
         (&["compile", "a.txt"], USAGE),
         (&["compile"], USAGE),
         (&[], USAGE),
         (&["p1.f90"], USAGE),
         (&["compile", "-p.f90"], USAGE),
         (&["compile", "p1.f90", "p1.f90"], USAGE),
+        (&["ast"], USAGE),
+        (&["ast", "p1.f90", "p1.f90"], USAGE),
+        (&["verify", "p1.f90"], USAGE),
+        (&["ast", "q.f90"], "lf: no such file: q.f90\n"),
         (&["compile", "q.f90"], "lf: no such file: q.f90\n"),
         (&["compile", ".f90"], "lf: no such file: .f90\n"),
     ];

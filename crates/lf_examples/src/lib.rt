@@ -6,6 +6,14 @@ mod arena;
 #[cfg(test)]
 mod compile;
 #[cfg(test)]
+mod lexical;
+#[cfg(test)]
 mod operations;
+#[cfg(test)]
+mod run;
+#[cfg(test)]
+mod syntax;
+#[cfg(test)]
+mod trees;
 #[cfg(test)]
 mod types;

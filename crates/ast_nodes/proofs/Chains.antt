@@ -20,7 +20,7 @@ unfolding joined
 joined_append [] ys = refl
 joined_append (x ∷ xs) ys = ap (λ t. x ++ t) (joined_append xs ys) ∙ sym (append_assoc x (joined xs) (joined ys))
 
-joined_first : (xs ys : List (List ℕ)) → joined (joined xs ∷ ys) ≡ joined (xs ++ ys)
+pub joined_first : (xs ys : List (List ℕ)) → joined (joined xs ∷ ys) ≡ joined (xs ++ ys)
 unfolding joined
 joined_first xs ys = sym (joined_append xs ys)
 

@@ -5,3 +5,4 @@ pub mod ExprFolds
 pub mod StmtFolds
 pub mod StmtTexts
 pub mod Texts
+pub mod Pieces

@@ -20,11 +20,11 @@ stmt_text-Assign line target value = statements.fold-Assign Text Text Text stmt_
 pub stmt_text-If : (line : ℕ) (construct : Option Name) (arms : List Arm) → stmt_text (If line construct arms) ≡ apart (codes "If") (decimal line ∷ optional construct ∷ []) (listed (arm_texts arms) ∷ [])
 stmt_text-If line construct arms = statements.fold-If Text Text Text stmt_layer arm_layer case_layer line construct arms ∙ sym (apart_node (codes "If") (decimal line ∷ optional construct ∷ []) (listed (arm_texts arms) ∷ []))
 
-pub stmt_text-Do : (line : ℕ) (construct : Option Name) (variable : Name) (lower : Expr) (upper : Expr) (step : Option Expr) (body : List Statement) → stmt_text (Do line construct variable lower upper step body) ≡ apart (codes "Do") (decimal line ∷ optional construct ∷ variable ∷ expr_text lower ∷ expr_text upper ∷ optional (option_map expr_text step) ∷ []) (listed (stmt_texts body) ∷ [])
-stmt_text-Do line construct variable lower upper step body = statements.fold-Do Text Text Text stmt_layer arm_layer case_layer line construct variable lower upper step body ∙ sym (apart_node (codes "Do") (decimal line ∷ optional construct ∷ variable ∷ expr_text lower ∷ expr_text upper ∷ optional (option_map expr_text step) ∷ []) (listed (stmt_texts body) ∷ []))
+pub stmt_text-Do : (line : ℕ) (construct : Option Name) (variable : Name) (lower : Expr) (upper : Expr) (step : Option Expr) (body : List Statement) → stmt_text (Do line construct variable lower upper step body) ≡ apart (codes "Do") (decimal line ∷ optional construct ∷ variable ∷ expr_text lower ∷ expr_text upper ∷ []) (optional (option_map expr_text step) ∷ listed (stmt_texts body) ∷ [])
+stmt_text-Do line construct variable lower upper step body = statements.fold-Do Text Text Text stmt_layer arm_layer case_layer line construct variable lower upper step body ∙ sym (apart_node (codes "Do") (decimal line ∷ optional construct ∷ variable ∷ expr_text lower ∷ expr_text upper ∷ []) (optional (option_map expr_text step) ∷ listed (stmt_texts body) ∷ []))
 
-pub stmt_text-While : (line : ℕ) (construct : Option Name) (condition : Option Expr) (body : List Statement) → stmt_text (While line construct condition body) ≡ apart (codes "While") (decimal line ∷ optional construct ∷ optional (option_map expr_text condition) ∷ []) (listed (stmt_texts body) ∷ [])
-stmt_text-While line construct condition body = statements.fold-While Text Text Text stmt_layer arm_layer case_layer line construct condition body ∙ sym (apart_node (codes "While") (decimal line ∷ optional construct ∷ optional (option_map expr_text condition) ∷ []) (listed (stmt_texts body) ∷ []))
+pub stmt_text-While : (line : ℕ) (construct : Option Name) (condition : Option Expr) (body : List Statement) → stmt_text (While line construct condition body) ≡ apart (codes "While") (decimal line ∷ optional construct ∷ []) (optional (option_map expr_text condition) ∷ listed (stmt_texts body) ∷ [])
+stmt_text-While line construct condition body = statements.fold-While Text Text Text stmt_layer arm_layer case_layer line construct condition body ∙ sym (apart_node (codes "While") (decimal line ∷ optional construct ∷ []) (optional (option_map expr_text condition) ∷ listed (stmt_texts body) ∷ []))
 
 pub stmt_text-Select : (line : ℕ) (construct : Option Name) (value : Expr) (cases : List Case) → stmt_text (Select line construct value cases) ≡ apart (codes "Select") (decimal line ∷ optional construct ∷ expr_text value ∷ []) (listed (case_texts cases) ∷ [])
 stmt_text-Select line construct value cases = statements.fold-Select Text Text Text stmt_layer arm_layer case_layer line construct value cases ∙ sym (apart_node (codes "Select") (decimal line ∷ optional construct ∷ expr_text value ∷ []) (listed (case_texts cases) ∷ []))

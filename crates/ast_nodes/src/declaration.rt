@@ -1,6 +1,6 @@
 use crate::expression::Expr;
 use lf_base::Name;
-use sqlite_items::Items;
+use sqlite_items::{Boxed, Items};
 
 /// A statement of the specification part (ISO/IEC 1539-1:2018, R504).
 #[derive(Drop)]
@@ -83,7 +83,7 @@ pub enum Length {
     /// `*`
     Star,
     /// An expression.
-    Given { value: Expr },
+    Given { value: Boxed<Expr> },
 }
 
 /// An attribute (8.5).

@@ -1,6 +1,6 @@
 use crate::expression::{Designator, Expr};
 use lf_base::Name;
-use sqlite_items::Items;
+use sqlite_items::{Boxed, Items};
 
 /// An executable statement or construct (ISO/IEC 1539-1:2018, R514), with the line on which it begins.
 #[derive(Drop)]
@@ -23,23 +23,23 @@ pub enum Statement {
         line: u32,
         construct: Option<Name>,
         variable: Name,
-        lower: Expr,
-        upper: Expr,
-        step: Option<Expr>,
+        lower: Boxed<Expr>,
+        upper: Boxed<Expr>,
+        step: Option<Boxed<Expr>>,
         body: Items<Statement>,
     },
     /// `do while`, or `do` with no condition.
     While {
         line: u32,
         construct: Option<Name>,
-        condition: Option<Expr>,
+        condition: Option<Boxed<Expr>>,
         body: Items<Statement>,
     },
     /// `select case` (11.1.9)
     Select {
         line: u32,
         construct: Option<Name>,
-        value: Expr,
+        value: Boxed<Expr>,
         cases: Items<Case>,
     },
     /// `call` (15.5.1)

@@ -19,7 +19,7 @@ behind_all first = ap Some (append-nil first)
 pub ruleset gathering = (behind_more, behind_none, behind_all)
 
 -- there is something at a place within
-at_place : {A P : Type 0} → (xs : List A) (i : ℕ) → i < length xs → (A → P) → P
+pub at_place : {A P : Type 0} → (xs : List A) (i : ℕ) → i < length xs → (A → P) → P
 at_place xs i h k = ⊎_elim (λ w. k w.0) (λ w. absurd (omega (arith, h, w.0))) (slice_get_cases xs i).1
 
 module _ {A : Type 0} (test : A → Bool) (xs : List A) (i : ℕ) (h : i < length xs) where

@@ -1,10 +1,9 @@
 -- The items of a statement: its tokens, with the groups in brackets read to their parts.
-use Rattle.std.specs.Prelude.{ℕ, ◌≤◌, Bool, true, false, ◌==◌, ◌&&◌, not, length, slice_get, if◌then◌else◌, List, [], ◌∷◌, ◌++◌, Option, Some, None}
+use Rattle.std.specs.Prelude.{ℕ, Bool, true, false, ◌==◌, ◌&&◌, not, length, slice_get, if◌then◌else◌, List, [], ◌∷◌, ◌++◌, Option, Some, None}
 use Rattle.std.specs.List.{list_any}
 use Rattle.std.specs.Option.{option_map, option_and_then}
 use Rattle.ff_lexer.specs.declared.token.Kind.{Kind}
 use Rattle.ff_lexer.specs.declared.token.Kind.TheVariants as kind
-use Rattle.ff_lexer.specs.declared.token.Token.{Token}
 use Rattle.ff_lexer.specs.Statements.{Spelled}
 use Rattle.ff_expressions.specs.declared.item.Parsed.{Parsed}
 use Rattle.ff_expressions.specs.declared.item.Mark.TheVariants.{Operator, Comma, Colon, Equals}
@@ -115,6 +114,11 @@ with_token reader kind.Number bytes = Some (with_item reader (number_of bytes))
 with_token reader kind.Text bytes = Some (with_item reader (item.Text (text_value bytes)))
 with_token reader kind.Mark bytes = with_mark reader (sign_of bytes)
 
+-- the reader behind a token, if that can stand there
+abbrev pub going : Bool → Reader → Option Reader
+going true reader = Some reader
+going false reader = None
+
 -- At the end no group is open.
 abbrev pub end_with : List Opened → List Item → Option (List Item)
 end_with [] items = Some items
@@ -133,8 +137,3 @@ start = record { opened = []; items = [] }
 -- the items of a statement, if its brackets match and each part of a group is one
 abbrev pub items_of : List Spelled → Option (List Item)
 items_of tokens = read_behind start tokens
-
--- All tokens lie in a source of this length.
-abbrev pub AllLie : ℕ → List Token → Type 0
-AllLie bytes [] = Unit {0}
-AllLie bytes (token ∷ tokens) = (token.from ≤ token.to) × (token.to ≤ bytes) × AllLie bytes tokens

@@ -1,3 +1,4 @@
+pub mod Binding
 pub mod Brackets
 pub mod Depths
 pub mod Expressions

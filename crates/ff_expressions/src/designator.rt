@@ -6,6 +6,7 @@ use crate::group::{Arguments, Place, values};
 use crate::item::{Bracket, GREATEST_DEPTH, Item, Mark, Parsed, Part, Reference};
 use crate::piece::is_same;
 use crate::queue::Queue;
+use crate::tree::with_capacity;
 use ast_nodes::{Designator, Expr, RefPart};
 use lf_base::{Memory, Name};
 use sqlite_items::Items;
@@ -21,6 +22,18 @@ fn without_parts(alloc: Global, depth: u32) -> Reference
         },
         depth,
     }
+}
+
+// Nothing is named yet; a designator of so many items has no more parts.
+fn nothing_named(alloc: Global, items: usize) -> Result<Reference, Memory>
+    ensures { IfOk result (λ r. r ≡ nothing_named) }
+{
+    Ok(Reference {
+        designator: Designator {
+            parts: with_capacity(alloc, items)?,
+        },
+        depth: 0,
+    })
 }
 
 fn with_part(
@@ -134,7 +147,7 @@ pub fn reference(alloc: Global, mut items: Queue<Item>) -> Result<Option<Referen
     ensures { IfOk result (λ r. r ≡ reference_of items) }
 {
     let mut due = true;
-    let mut reference = without_parts(alloc, 0);
+    let mut reference = nothing_named(alloc, items.len())?;
     while let Some(item) = items.take() {
         match with_link(alloc, due, reference, item)? {
             Some((next_due, next)) => {

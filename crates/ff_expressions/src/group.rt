@@ -5,7 +5,7 @@ ghost use Rattle.ff_expressions.specs.Pieces.{each};
 
 use crate::item::{Parsed, Part};
 use crate::queue::Queue;
-use crate::tree::{triple, value_of};
+use crate::tree::{triple, value_of, with_capacity};
 use ast_nodes::Expr;
 use lf_base::Memory;
 use sqlite_items::Items;
@@ -27,6 +27,16 @@ impl Arguments {
             list: Items::new(alloc),
             depth: 0,
         }
+    }
+
+    /// No trees, with room for so many.
+    pub fn with_capacity(alloc: Global, capacity: usize) -> Result<Arguments, Memory>
+        ensures { IfOk result (λ r. r ≡ no_arguments) }
+    {
+        Ok(Arguments {
+            list: with_capacity(alloc, capacity)?,
+            depth: 0,
+        })
     }
 
     /// One more tree.
@@ -90,7 +100,7 @@ pub fn values(
 ) -> Result<Option<Arguments>, Memory>
     ensures { IfOk result (λ r. r ≡ values_of place parts) }
 {
-    let mut values = Arguments::none(alloc);
+    let mut values = Arguments::with_capacity(alloc, parts.len())?;
     while let Some(part) = parts.take() {
         match value_at(alloc, place, part)? {
             Some(value) => values = values.with(value)?,

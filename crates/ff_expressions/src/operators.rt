@@ -4,7 +4,7 @@ ghost use Rattle.ff_expressions.specs.Trees.{unary};
 ghost use Rattle.ff_expressions.specs.Expressions.{joined, raised, to_left, at_most_two, left_level, sign_in_front, behind_first, behind_sign, with_sign, others_after, operand_of, power_of, sum_of, text_of, relation_of, negation_of, expression_of};
 
 use crate::item::{Item, Mark, Parsed};
-use crate::level::{Level, operator_in_front, take_operand};
+use crate::level::{Level, nearest, operator_in_front, take_operand};
 use crate::piece::stands;
 use crate::primary::primary;
 use crate::queue::Queue;
@@ -198,7 +198,7 @@ fn negation(alloc: Global, mut items: Queue<Item>) -> Result<Option<Parsed>, Mem
 fn operand(alloc: Global, level: Level, items: Queue<Item>) -> Result<Option<Parsed>, Memory>
     ensures { IfOk result (λ r. r ≡ operand_of level items) }
 {
-    match level {
+    match nearest(level, &items) {
         Level::Equivalence => left_level(alloc, Level::Disjunction, items),
         Level::Disjunction => left_level(alloc, Level::Conjunction, items),
         Level::Conjunction => negation(alloc, items),

@@ -155,7 +155,7 @@ fn bounds(
 ) -> Result<Option<Queue<Option<Parsed>>>, Memory>
     ensures { IfOk result (λ r. r ≡ each bound_of pieces) }
 {
-    let mut done = Queue::new(alloc);
+    let mut done = Queue::with_capacity(alloc, pieces.len())?;
     while let Some(piece) = pieces.take() {
         match bound(alloc, piece)? {
             Some(value) => done.push(value)?,
@@ -251,7 +251,7 @@ fn part(alloc: Global, items: Queue<Item>) -> Result<Option<Part>, Memory>
 fn parts_in(alloc: Global, mut pieces: Queue<Queue<Item>>) -> Result<Option<Queue<Part>>, Memory>
     ensures { IfOk result (λ r. r ≡ each part_of pieces) }
 {
-    let mut done = Queue::new(alloc);
+    let mut done = Queue::with_capacity(alloc, pieces.len())?;
     while let Some(piece) = pieces.take() {
         match part(alloc, piece)? {
             Some(part) => done.push(part)?,

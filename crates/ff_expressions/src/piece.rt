@@ -52,12 +52,18 @@ pub fn stands(mark: Mark, items: &Queue<Item>, at: usize) -> bool
     }
 }
 
-/// The items round a mark. There is always one piece, which may be empty.
-pub fn pieces(
-    alloc: Global,
-    mut items: Queue<Item>,
-    mark: Mark,
-) -> Result<Queue<Queue<Item>>, Memory>
+fn has_mark(mark: Mark, items: &Queue<Item>) -> bool
+    ensures { result ≡ list_any (is_mark mark) items.now }
+{
+    for at in 0..items.len() {
+        if stands(mark, items, at) {
+            return true;
+        }
+    }
+    false
+}
+
+fn divided(alloc: Global, mut items: Queue<Item>, mark: Mark) -> Result<Queue<Queue<Item>>, Memory>
     ensures { IfOk result (λ r. r ≡ pieces_of mark items) }
 {
     let mut done = Queue::new(alloc);
@@ -71,6 +77,18 @@ pub fn pieces(
         }
     }
     done.push(piece)?;
+    Ok(done)
+}
+
+/// The items round a mark. There is always one piece, which may be empty.
+pub fn pieces(alloc: Global, items: Queue<Item>, mark: Mark) -> Result<Queue<Queue<Item>>, Memory>
+    ensures { IfOk result (λ r. r ≡ pieces_of mark items) }
+{
+    if has_mark(mark, &items) {
+        return divided(alloc, items, mark);
+    }
+    let mut done = Queue::with_capacity(alloc, 1)?;
+    done.push(items)?;
     Ok(done)
 }
 

@@ -1,4 +1,4 @@
-ghost use Rattle.std.specs.Prelude.{◌≡◌, [], ◌∷◌, ◌++◌, length, slice_get, OnOk, MatchOption};
+ghost use Rattle.std.specs.Prelude.{◌≡◌, [], ◌∷◌, ◌++◌, length, slice_get, IfOk, OnOk, MatchOption};
 ghost use Rattle.std.specs.Option.{option_copied};
 
 use lf_base::Memory;
@@ -30,6 +30,16 @@ impl<T> Queue<T> {
     {
         Queue {
             items: VecDeque::new(alloc),
+        }
+    }
+
+    /// The list without items, with room for so many.
+    pub fn with_capacity(alloc: Global, capacity: usize) -> Result<Queue<T>, Memory>
+        ensures { IfOk result (λ queue. queue ≡ []) }
+    {
+        match VecDeque::with_capacity(alloc, capacity) {
+            Ok(items) => Ok(Queue { items }),
+            Err(_) => Err(Memory),
         }
     }
 

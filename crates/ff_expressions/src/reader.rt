@@ -1,14 +1,14 @@
-ghost use Rattle.std.specs.Prelude.{◌≡◌, IfOk, Some, map, length};
+ghost use Rattle.std.specs.Prelude.{◌≡◌, IfOk, Some, map};
 ghost use Rattle.ff_lexer.specs.Spans.{spelled};
 ghost use Rattle.ff_expressions.specs.Signs.{sign_of};
-ghost use Rattle.ff_expressions.specs.Items.{with_item, opened_by, is_round, same_bracket, number_of, parts_of, closed_with, closed_by, with_mark, with_token, end_of, start, items_of, AllLie};
+ghost use Rattle.ff_expressions.specs.Items.{with_item, opened_by, is_round, same_bracket, number_of, parts_of, going, closed_with, closed_by, with_mark, with_token, end_of, start, items_of};
 
 use crate::item::{Bracket, Item};
 use crate::part::parts;
 use crate::queue::Queue;
 use crate::sign::{Sign, sign_of};
 use crate::spelling::{digits, suffix, text};
-use ff_lexer::{Kind, Token, spelling};
+use ff_lexer::{Kind, Token, spell};
 use lf_base::{Memory, Name};
 use std::alloc::Global;
 
@@ -54,64 +54,75 @@ fn number(alloc: Global, bytes: &[u8]) -> Result<Item, Memory>
 }
 
 impl Reader {
-    fn start(alloc: Global) -> Reader
-        ensures { result ≡ start }
+    // Nothing has been read of so many tokens.
+    fn start(alloc: Global, tokens: usize) -> Result<Reader, Memory>
+        ensures { IfOk result (λ r. r ≡ start) }
     {
-        Reader {
+        Ok(Reader {
             opened: Queue::new(alloc),
-            items: Queue::new(alloc),
+            items: Queue::with_capacity(alloc, tokens)?,
+        })
+    }
+
+    fn with_item(&mut self, item: Item) -> Result<bool, Memory>
+        ensures { IfOk result (λ goes_on. going goes_on self.new ≡ Some (with_item self.old item)) }
+    {
+        self.items.push(item)?;
+        Ok(true)
+    }
+
+    fn opened_by(&mut self, alloc: Global, bracket: Bracket) -> Result<bool, Memory>
+        ensures { IfOk result (λ goes_on. going goes_on self.new ≡ Some (opened_by bracket self.old)) }
+    {
+        let before = std::mem::replace(&mut self.items, Queue::new(alloc));
+        self.opened.put_first(Opened { bracket, before })?;
+        Ok(true)
+    }
+
+    // The items in the innermost group end.
+    fn with_group(
+        &mut self,
+        alloc: Global,
+        bracket: Bracket,
+        items: Queue<Item>,
+    ) -> Result<bool, Memory>
+        ensures { IfOk result (λ goes_on. going goes_on self.new ≡ closed_with (record { bracket = bracket; before = self.old.items }) self.old.opened (parts_of items)) }
+    {
+        match parts(alloc, items)? {
+            Some(parts) => self.with_item(Item::Group { bracket, parts }),
+            None => Ok(false),
         }
     }
 
-    fn with_item(self, item: Item) -> Result<Option<Reader>, Memory>
-        ensures { IfOk result (λ r. r ≡ Some (with_item self item)) }
+    fn closed_by(&mut self, alloc: Global, bracket: Bracket) -> Result<bool, Memory>
+        ensures { IfOk result (λ goes_on. going goes_on self.new ≡ closed_by bracket self.old.opened self.old.items) }
     {
-        let Reader { opened, mut items } = self;
-        items.push(item)?;
-        Ok(Some(Reader { opened, items }))
-    }
-
-    fn opened_by(self, alloc: Global, bracket: Bracket) -> Result<Option<Reader>, Memory>
-        ensures { IfOk result (λ r. r ≡ Some (opened_by bracket self)) }
-    {
-        let Reader { mut opened, items } = self;
-        opened.put_first(Opened {
-            bracket,
-            before: items,
-        })?;
-        Ok(Some(Reader {
-            opened,
-            items: Queue::new(alloc),
-        }))
-    }
-
-    fn closed_by(self, alloc: Global, bracket: Bracket) -> Result<Option<Reader>, Memory>
-        ensures { IfOk result (λ r. r ≡ closed_by bracket self.opened self.items) }
-    {
-        let Reader { mut opened, items } = self;
-        let Some(group) = opened.take() else {
-            return Ok(None);
+        let Some(group) = self.opened.take() else {
+            return Ok(false);
         };
         if !same_bracket(group.bracket, bracket) {
-            return Ok(None);
+            return Ok(false);
         }
-        close(alloc, group, opened, items)
+        let Opened { bracket, before } = group;
+        let items = std::mem::replace(&mut self.items, before);
+        self.with_group(alloc, bracket, items)
     }
 
-    fn with_mark(self, alloc: Global, sign: Option<Sign>) -> Result<Option<Reader>, Memory>
-        ensures { IfOk result (λ r. r ≡ with_mark self sign) }
+    fn with_mark(&mut self, alloc: Global, sign: Option<Sign>) -> Result<bool, Memory>
+        ensures { IfOk result (λ goes_on. going goes_on self.new ≡ with_mark self.old sign) }
     {
         match sign {
             Some(Sign::Mark { mark }) => self.with_item(Item::Mark { mark }),
             Some(Sign::Truth { value }) => self.with_item(Item::Truth { value }),
             Some(Sign::Opening { bracket }) => self.opened_by(alloc, bracket),
             Some(Sign::Closing { bracket }) => self.closed_by(alloc, bracket),
-            None => Ok(None),
+            None => Ok(false),
         }
     }
 
-    fn with_token(self, alloc: Global, kind: Kind, bytes: &[u8]) -> Result<Option<Reader>, Memory>
-        ensures { IfOk result (λ r. r ≡ with_token self kind bytes.now) }
+    // Reads a token. False where it can't stand here.
+    fn with_token(&mut self, alloc: Global, kind: Kind, bytes: &[u8]) -> Result<bool, Memory>
+        ensures { IfOk result (λ goes_on. going goes_on self.new ≡ with_token self.old kind bytes.now) }
     {
         match kind {
             Kind::Word => {
@@ -141,38 +152,17 @@ impl Reader {
     }
 }
 
-// The items in the innermost group end.
-fn close(
-    alloc: Global,
-    group: Opened,
-    opened: Queue<Opened>,
-    items: Queue<Item>,
-) -> Result<Option<Reader>, Memory>
-    ensures { IfOk result (λ r. r ≡ closed_with group opened (parts_of items)) }
-{
-    let Some(parts) = parts(alloc, items)? else {
-        return Ok(None);
-    };
-    let Opened {
-        bracket,
-        before: mut items,
-    } = group;
-    items.push(Item::Group { bracket, parts })?;
-    Ok(Some(Reader { opened, items }))
-}
-
 /// The items of a statement's tokens. None where its brackets do not match, or what stands between two commas of a group is
 /// no part.
 pub fn items(alloc: Global, source: &[u8], tokens: &[Token]) -> Result<Option<Queue<Item>>, Memory>
-    requires { AllLie (length source.now) tokens.now }
     ensures { IfOk result (λ r. r ≡ items_of (map (spelled source.now) tokens.now)) }
 {
-    let mut reader = Reader::start(alloc);
+    let mut reader = Reader::start(alloc, tokens.len())?;
+    let mut bytes = Vec::new(alloc);
     for token in tokens {
-        let bytes = spelling(alloc, source, token)?;
-        match reader.with_token(alloc, token.kind, bytes.as_slice())? {
-            Some(next) => reader = next,
-            None => return Ok(None),
+        spell(&mut bytes, source, token)?;
+        if !reader.with_token(alloc, token.kind, bytes.as_slice())? {
+            return Ok(None);
         }
     }
     Ok(reader.finish())

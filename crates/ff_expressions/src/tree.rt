@@ -1,4 +1,4 @@
-ghost use Rattle.std.specs.Prelude.{◌≡◌, None, Some, IfOk};
+ghost use Rattle.std.specs.Prelude.{◌≡◌, [], None, Some, IfOk};
 ghost use Rattle.ff_expressions.specs.Trees.{stub, leaf, node, unary, binary, paren, depth_in, tree_in, value_of, triple, array, implied_do};
 
 use crate::group::Arguments;
@@ -26,6 +26,16 @@ pub fn leaf(tree: Expr) -> Parsed
     ensures { result ≡ leaf tree }
 {
     Parsed { tree, depth: 1 }
+}
+
+/// A list without items, with room for so many.
+pub fn with_capacity<T>(alloc: Global, capacity: usize) -> Result<Items<T>, Memory>
+    ensures { IfOk result (λ items. items ≡ []) }
+{
+    match Vec::with_capacity(alloc, capacity) {
+        Ok(items) => Ok(Items::from_vec(items)),
+        Err(_) => Err(Memory),
+    }
 }
 
 // A node whose deepest part has this depth.

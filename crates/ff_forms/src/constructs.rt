@@ -11,7 +11,7 @@ use crate::shape::{
 use ast_nodes::{CaseRange, Expr};
 use ff_expressions::{Item, Mark, Parsed, Part, Queue, Step};
 use lf_base::Name;
-use sqlite_items::Items;
+use sqlite_items::{Boxed, Items};
 use std::alloc::Global;
 
 #[tactic(auto, unfolding(crate::specs::Constructs::else_if_row))]
@@ -68,20 +68,27 @@ pub fn else_row(items: Queue<Item>) -> Result<(Form, u32), Refusal>
 }
 
 #[tactic(auto, unfolding(crate::specs::Constructs::while_row))]
-fn while_row(construct: Option<Name>, items: Queue<Item>) -> Result<(Form, u32), Refusal>
+fn while_row(
+    alloc: Global,
+    construct: Option<Name>,
+    items: Queue<Item>,
+) -> Result<(Form, u32), Refusal>
     ensures { Gives (λ x. (x.0, x.1)) result (while_row construct items) }
 {
     let parts = only_group(items)?;
     let (condition, depth) = one_expression(parts)?;
     let form = Form::While {
         construct,
-        condition: Some(condition),
+        condition: Some(Boxed::new(alloc, condition)?),
     };
     Ok((form, depth))
 }
 
 #[tactic(auto, unfolding(crate::specs::Constructs::step_of))]
-fn step(alloc: Global, mut pieces: Queue<Queue<Item>>) -> Result<(Option<Expr>, u32), Refusal>
+fn step(
+    alloc: Global,
+    mut pieces: Queue<Queue<Item>>,
+) -> Result<(Option<Boxed<Expr>>, u32), Refusal>
     ensures { Gives (λ x. (x.0, x.1)) result (step_of pieces) }
 {
     match pieces.take() {
@@ -89,17 +96,21 @@ fn step(alloc: Global, mut pieces: Queue<Queue<Item>>) -> Result<(Option<Expr>, 
         Some(piece) => {
             nothing(pieces)?;
             let (e, depth) = expression(alloc, piece)?;
-            Ok((Some(e), depth))
+            Ok((Some(Boxed::new(alloc, e)?), depth))
         }
     }
 }
 
 #[tactic(auto, unfolding(crate::specs::Constructs::next_expression))]
-fn next_expression(alloc: Global, pieces: &mut Queue<Queue<Item>>) -> Result<(Expr, u32), Refusal>
+fn next_expression(
+    alloc: Global,
+    pieces: &mut Queue<Queue<Item>>,
+) -> Result<(Boxed<Expr>, u32), Refusal>
     ensures { Gives (λ x. (x.0, x.1, pieces.new)) result (next_expression pieces.old) }
 {
     let piece = first(pieces)?;
-    expression(alloc, piece)
+    let (e, depth) = expression(alloc, piece)?;
+    Ok((Boxed::new(alloc, e)?, depth))
 }
 
 #[tactic(auto, unfolding(crate::specs::Constructs::counted_by))]
@@ -148,7 +159,7 @@ fn do_word(
     ensures { Gives (λ x. (x.0, x.1)) result (do_word construct name items) }
 {
     if is(name.bytes(), b"while") && is_group_first(&items) {
-        return while_row(construct, items);
+        return while_row(alloc, construct, items);
     }
     counted_row(alloc, construct, name, items)
 }
@@ -186,20 +197,29 @@ pub fn do_row(
 }
 
 #[tactic(auto, unfolding(crate::specs::Constructs::select_case_row))]
-pub fn select_case_row(construct: Option<Name>, items: Queue<Item>) -> Result<(Form, u32), Refusal>
+pub fn select_case_row(
+    alloc: Global,
+    construct: Option<Name>,
+    items: Queue<Item>,
+) -> Result<(Form, u32), Refusal>
     ensures { Gives (λ x. (x.0, x.1)) result (select_case_row construct items) }
 {
     let parts = only_group(items)?;
     let (value, depth) = one_expression(parts)?;
+    let value = Boxed::new(alloc, value)?;
     Ok((Form::Select { construct, value }, depth))
 }
 
 #[tactic(auto, unfolding(crate::specs::Constructs::select_row))]
-pub fn select_row(construct: Option<Name>, mut items: Queue<Item>) -> Result<(Form, u32), Refusal>
+pub fn select_row(
+    alloc: Global,
+    construct: Option<Name>,
+    mut items: Queue<Item>,
+) -> Result<(Form, u32), Refusal>
     ensures { Gives (λ x. (x.0, x.1)) result (select_row construct items) }
 {
     word(&mut items, b"case")?;
-    select_case_row(construct, items)
+    select_case_row(alloc, construct, items)
 }
 
 #[tactic(auto, unfolding(crate::specs::Constructs::section_range))]

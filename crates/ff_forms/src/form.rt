@@ -1,6 +1,6 @@
 use ast_nodes::{CaseRange, Expr, Statement, TypeSpec, UseStmt, Vars};
 use lf_base::Name;
-use sqlite_items::Items;
+use sqlite_items::{Boxed, Items};
 
 /// What an end statement closes by its own words.
 #[derive(Clone, Copy, Debug, PartialEq, Eq)]
@@ -104,19 +104,19 @@ pub enum Form {
     Do {
         construct: Option<Name>,
         variable: Name,
-        lower: Expr,
-        upper: Expr,
-        step: Option<Expr>,
+        lower: Boxed<Expr>,
+        upper: Boxed<Expr>,
+        step: Option<Boxed<Expr>>,
     },
     /// `do while (e)`, or `do` alone
     While {
         construct: Option<Name>,
-        condition: Option<Expr>,
+        condition: Option<Boxed<Expr>>,
     },
     /// `select case (e)`
     Select {
         construct: Option<Name>,
-        value: Expr,
+        value: Boxed<Expr>,
     },
     /// `case (ranges)`, or `case default` where `is_default` is 1
     Case {

@@ -169,7 +169,7 @@ pub fn character_row(
 ) -> Result<(Form, u32), Refusal>
     ensures { Gives (λ x. (x.0, x.1)) result (character_row line items) }
 {
-    let (type_spec, depth) = character_type(&mut items)?;
+    let (type_spec, depth) = character_type(alloc, &mut items)?;
     declaration(alloc, line, type_spec, depth, items)
 }
 

@@ -1,6 +1,6 @@
-ghost use Rattle.std.specs.Prelude.{◌≡◌, Some, map, length};
+ghost use Rattle.std.specs.Prelude.{◌≡◌, Some, map};
 ghost use Rattle.ff_lexer.specs.Spans.{spelled};
-ghost use Rattle.ff_expressions.specs.Items.{items_of, AllLie};
+ghost use Rattle.ff_expressions.specs.Items.{items_of};
 ghost use Rattle.ff_forms.specs.Answers.{Gives};
 ghost use Rattle.ff_forms.specs.Words.{rule_of};
 ghost use Rattle.ff_forms.specs.Forms.{deep_flag, read_of, form_of, StatementGives, FaultGives};
@@ -15,7 +15,6 @@ use lf_base::SyntaxFault;
 use std::alloc::Global;
 
 fn all_items(alloc: Global, source: &[u8], tokens: &[Token]) -> Result<Queue<Item>, Refusal>
-    requires { AllLie (length source.now) tokens.now }
     ensures { Gives (λ items. items) result (items_of (map (spelled source.now) tokens.now)) }
 {
     match ff_expressions::items(alloc, source, tokens)? {
@@ -26,7 +25,6 @@ fn all_items(alloc: Global, source: &[u8], tokens: &[Token]) -> Result<Queue<Ite
 
 #[tactic(auto, unfolding(crate::specs::Forms::read_of))]
 fn read(alloc: Global, source: &[u8], line: u32, tokens: &[Token]) -> Result<(Form, u32), Refusal>
-    requires { AllLie (length source.now) tokens.now }
     ensures { Gives (λ x. (x.0, x.1)) result (read_of line (map (spelled source.now) tokens.now)) }
 {
     let items = all_items(alloc, source, tokens)?;
@@ -44,7 +42,6 @@ fn deep_flag(depth: u32) -> u8
 }
 
 fn fault(alloc: Global, source: &[u8], line: u32, tokens: &[Token]) -> SyntaxFault
-    requires { AllLie (length source.now) tokens.now }
     ensures { FaultGives line result (rule_of (map (spelled source.now) tokens.now)) }
 {
     match rule(alloc, source, tokens) {
@@ -53,11 +50,10 @@ fn fault(alloc: Global, source: &[u8], line: u32, tokens: &[Token]) -> SyntaxFau
     }
 }
 
-/// The form of a statement (ISO/IEC 1539-1:2018, R501 to R517), whose tokens lie in the source. Where it is in none, the fault tells
+/// The form of a statement (ISO/IEC 1539-1:2018, R501 to R517). Where it is in none, the fault tells
 /// its line, with E202 where its first words are those of a statement of the language that is not built, and else E201.
 #[tactic(auto, unfolding(crate::specs::Forms::form_of, crate::specs::Forms::judged))]
 pub fn read_form(alloc: Global, source: &[u8], stmt: &Stmt) -> Result<Formed, SyntaxFault>
-    requires { AllLie (length source.now) stmt.now.tokens.items }
     ensures { StatementGives stmt.now.line result (form_of stmt.now.line (map (spelled source.now) stmt.now.tokens.items)) }
 {
     let line = stmt.line;

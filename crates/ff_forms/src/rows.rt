@@ -256,10 +256,10 @@ fn construct_named(
         return do_row(alloc, Some(construct), items);
     }
     if is(name, b"select") {
-        return select_row(Some(construct), items);
+        return select_row(alloc, Some(construct), items);
     }
     if is(name, b"selectcase") {
-        return select_case_row(Some(construct), items);
+        return select_case_row(alloc, Some(construct), items);
     }
     Err(Refusal::Unformed)
 }
@@ -339,10 +339,10 @@ fn choice_word(
     ensures { Gives (λ x. (x.0, x.1)) result (choice_word line name.now items) }
 {
     if is(name, b"select") {
-        return select_row(None, items);
+        return select_row(alloc, None, items);
     }
     if is(name, b"selectcase") {
-        return select_case_row(None, items);
+        return select_case_row(alloc, None, items);
     }
     if is(name, b"case") {
         return case_row(alloc, items);

@@ -10,7 +10,7 @@ use crate::shape::{
 use ast_nodes::{Attribute, Bound, Expr, Length, TypeSpec, code};
 use ff_expressions::{Item, Parsed, Part, Queue, Step};
 use lf_base::Name;
-use sqlite_items::Items;
+use sqlite_items::{Boxed, Items};
 use std::alloc::Global;
 
 #[tactic(auto, unfolding(crate::specs::Types::kind_of_digits))]
@@ -84,54 +84,57 @@ pub fn integer_type(items: &mut Queue<Item>) -> Result<TypeSpec, Refusal>
 }
 
 #[tactic(auto, unfolding(crate::specs::Types::length_value))]
-fn length_value(value: Option<Parsed>) -> (Length, u32)
-    ensures { (result.0, result.1) ≡ length_value value }
+fn length_value(alloc: Global, value: Option<Parsed>) -> Result<(Length, u32), Refusal>
+    ensures { Gives (λ x. (x.0, x.1)) result (Some (length_value value)) }
 {
     match value {
-        None => (Length::Star, 0),
-        Some(Parsed { tree, depth }) => (Length::Given { value: tree }, depth),
+        None => Ok((Length::Star, 0)),
+        Some(Parsed { tree, depth }) => {
+            let value = Boxed::new(alloc, tree)?;
+            Ok((Length::Given { value }, depth))
+        }
     }
 }
 
 #[tactic(auto, unfolding(crate::specs::Types::length_keyed))]
-fn length_keyed(name: &Name, value: Option<Parsed>) -> Result<(Length, u32), Refusal>
+fn length_keyed(alloc: Global, name: &Name, value: Option<Parsed>) -> Result<(Length, u32), Refusal>
     ensures { Gives (λ x. (x.0, x.1)) result (length_keyed name.now value) }
 {
     if is(name.bytes(), b"len") {
-        return Ok(length_value(value));
+        return length_value(alloc, value);
     }
     Err(Refusal::Unformed)
 }
 
 #[tactic(auto, unfolding(crate::specs::Types::length_part))]
-fn length_part(part: Part) -> Result<(Length, u32), Refusal>
+fn length_part(alloc: Global, part: Part) -> Result<(Length, u32), Refusal>
     ensures { Gives (λ x. (x.0, x.1)) result (length_part part) }
 {
     match part {
         Part::Star => Ok((Length::Star, 0)),
-        Part::Plain { value } => Ok(length_value(Some(value))),
-        Part::Keyed { name, value } => length_keyed(&name, value),
+        Part::Plain { value } => length_value(alloc, Some(value)),
+        Part::Keyed { name, value } => length_keyed(alloc, &name, value),
         other => Err(refused(other)),
     }
 }
 
 #[tactic(auto, unfolding(crate::specs::Types::one_length))]
-fn one_length(parts: Queue<Part>) -> Result<(Length, u32), Refusal>
+fn one_length(alloc: Global, parts: Queue<Part>) -> Result<(Length, u32), Refusal>
     ensures { Gives (λ x. (x.0, x.1)) result (one_length parts) }
 {
     let part = only_one(parts)?;
-    length_part(part)
+    length_part(alloc, part)
 }
 
 #[tactic(auto, unfolding(crate::specs::Types::character_type))]
-pub fn character_type(items: &mut Queue<Item>) -> Result<(TypeSpec, u32), Refusal>
+pub fn character_type(alloc: Global, items: &mut Queue<Item>) -> Result<(TypeSpec, u32), Refusal>
     ensures { Gives (λ x. (x.0, x.1, items.new)) result (character_type items.old) }
 {
     if !is_group_first(items) {
         return Ok((TypeSpec::Character { length: None }, 0));
     }
     let parts = group_first(items)?;
-    let (length, depth) = one_length(parts)?;
+    let (length, depth) = one_length(alloc, parts)?;
     Ok((
         TypeSpec::Character {
             length: Some(length),

@@ -1,6 +1,6 @@
-ghost use Rattle.std.specs.Prelude.{◌≡◌, ◌≤◌, IfOk, List, length, map, ◌∷◌, [], slice_get};
+ghost use Rattle.std.specs.Prelude.{◌≡◌, IfOk, List, map, ◌∷◌, [], slice_get};
 ghost use Rattle.ff_lexer.specs.Spans.{spelled};
-ghost use Rattle.ff_expressions.specs.Items.{items_of, AllLie};
+ghost use Rattle.ff_expressions.specs.Items.{items_of};
 ghost use Rattle.ff_forms.specs.Words.{is_type_word, is_attribute_word, is_linkage_word, is_storage_word, is_allocation_word, is_jump_word, is_block_word, is_file_word, is_record_word, is_unit_word, is_prefix_word, is_specification_word, is_executable_word, is_other_word, is_word_in, is_colon_in, spells_in, is_other, is_other_in, is_name_front, is_concurrent, is_unbuilt, rule_at, rule_of};
 
 use crate::shape::{is, is_colon_at, is_word_at, spells_at};
@@ -138,8 +138,6 @@ fn is_other_word(name: &[u8]) -> bool
 
 // A token by itself.
 fn alone(alloc: Global, source: &[u8], token: Token) -> Result<Option<Queue<Item>>, Memory>
-    requires ordered { token.from ≤ token.to }
-    requires within { token.to ≤ length source.now }
     ensures { IfOk result (λ items. items ≡ items_of (spelled source.now token ∷ [])) }
 {
     ff_expressions::items(alloc, source, &[token])
@@ -147,8 +145,6 @@ fn alone(alloc: Global, source: &[u8], token: Token) -> Result<Option<Queue<Item
 
 #[tactic(auto, unfolding(crate::specs::Words::is_word_in))]
 fn is_word_token(alloc: Global, source: &[u8], token: Token) -> Result<bool, Memory>
-    requires ordered { token.from ≤ token.to }
-    requires within { token.to ≤ length source.now }
     ensures { IfOk result (λ b. b ≡ is_word_in (items_of (spelled source.now token ∷ []))) }
 {
     match alone(alloc, source, token)? {
@@ -159,8 +155,6 @@ fn is_word_token(alloc: Global, source: &[u8], token: Token) -> Result<bool, Mem
 
 #[tactic(auto, unfolding(crate::specs::Words::is_colon_in))]
 fn is_colon_token(alloc: Global, source: &[u8], token: Token) -> Result<bool, Memory>
-    requires ordered { token.from ≤ token.to }
-    requires within { token.to ≤ length source.now }
     ensures { IfOk result (λ b. b ≡ is_colon_in (items_of (spelled source.now token ∷ []))) }
 {
     match alone(alloc, source, token)? {
@@ -181,8 +175,6 @@ fn is_other(items: &Queue<Item>) -> bool
 
 #[tactic(auto, unfolding(crate::specs::Words::is_other_in))]
 fn is_other_token(alloc: Global, source: &[u8], token: Token) -> Result<bool, Memory>
-    requires ordered { token.from ≤ token.to }
-    requires within { token.to ≤ length source.now }
     ensures { IfOk result (λ b. b ≡ is_other_in (items_of (spelled source.now token ∷ []))) }
 {
     match alone(alloc, source, token)? {
@@ -193,8 +185,6 @@ fn is_other_token(alloc: Global, source: &[u8], token: Token) -> Result<bool, Me
 
 #[tactic(auto, unfolding(crate::specs::Words::spells_in))]
 fn spells_token(alloc: Global, source: &[u8], token: Token, text: &[u8]) -> Result<bool, Memory>
-    requires ordered { token.from ≤ token.to }
-    requires within { token.to ≤ length source.now }
     ensures { IfOk result (λ b. b ≡ spells_in text.now (items_of (spelled source.now token ∷ []))) }
 {
     match alone(alloc, source, token)? {
@@ -205,10 +195,6 @@ fn spells_token(alloc: Global, source: &[u8], token: Token, text: &[u8]) -> Resu
 
 #[tactic(auto, unfolding(crate::specs::Words::is_name_front))]
 fn is_name_front(alloc: Global, source: &[u8], name: Token, colon: Token) -> Result<bool, Memory>
-    requires name_ordered { name.from ≤ name.to }
-    requires name_within { name.to ≤ length source.now }
-    requires colon_ordered { colon.from ≤ colon.to }
-    requires colon_within { colon.to ≤ length source.now }
     ensures { IfOk result (λ b. b ≡ is_name_front (spelled source.now name) (spelled source.now colon)) }
 {
     if is_word_token(alloc, source, name)? {
@@ -224,9 +210,6 @@ fn is_concurrent(
     first: Token,
     tokens: &[Token],
 ) -> Result<bool, Memory>
-    requires ordered { first.from ≤ first.to }
-    requires within { first.to ≤ length source.now }
-    requires others { AllLie (length source.now) tokens.now }
     ensures { IfOk result (λ b. b ≡ is_concurrent (spelled source.now first) (map (spelled source.now) tokens.now)) }
 {
     match tokens {
@@ -242,7 +225,6 @@ fn is_concurrent(
 
 #[tactic(auto, unfolding(crate::specs::Words::is_unbuilt))]
 fn is_unbuilt(alloc: Global, source: &[u8], tokens: &[Token]) -> Result<bool, Memory>
-    requires { AllLie (length source.now) tokens.now }
     ensures { IfOk result (λ b. b ≡ is_unbuilt (map (spelled source.now) tokens.now)) }
 {
     match tokens {
@@ -258,7 +240,6 @@ fn is_unbuilt(alloc: Global, source: &[u8], tokens: &[Token]) -> Result<bool, Me
 
 #[tactic(auto, unfolding(crate::specs::Words::rule_at))]
 fn rule_at(alloc: Global, source: &[u8], tokens: &[Token]) -> Result<Rule, Memory>
-    requires { AllLie (length source.now) tokens.now }
     ensures { IfOk result (λ rule. rule ≡ rule_at (map (spelled source.now) tokens.now)) }
 {
     if is_unbuilt(alloc, source, tokens)? {
@@ -270,7 +251,6 @@ fn rule_at(alloc: Global, source: &[u8], tokens: &[Token]) -> Result<Rule, Memor
 // The rule that a statement in no form breaks.
 #[tactic(auto, unfolding(crate::specs::Words::rule_of))]
 pub fn rule(alloc: Global, source: &[u8], tokens: &[Token]) -> Result<Rule, Memory>
-    requires { AllLie (length source.now) tokens.now }
     ensures { IfOk result (λ rule. rule ≡ rule_of (map (spelled source.now) tokens.now)) }
 {
     match tokens {

@@ -1,4 +1,5 @@
 pub mod Cleaned
+pub mod Copied
 pub mod Covered
 pub mod Drafts
 pub mod FirstLine

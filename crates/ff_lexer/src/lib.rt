@@ -10,6 +10,6 @@ mod token;
 mod unbroken;
 
 pub use reader::statements;
-pub use span::{spelled, spelling};
+pub use span::{spell, spelled};
 pub use token::{Kind, Stmt, Token};
 pub use unbroken::Spelled;

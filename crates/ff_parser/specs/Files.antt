@@ -8,7 +8,6 @@ use Rattle.lf_base.specs.declared.fault.SyntaxFault.{SyntaxFault}
 use Rattle.lf_base.specs.declared.fault.SyntaxFault.TheVariants.{At, Memory}
 use Rattle.ff_lexer.specs.Statements.{Spelled}
 use Rattle.ff_lexer.specs.declared.token.Stmt.{Stmt}
-use Rattle.ff_expressions.specs.Items.{AllLie}
 use Rattle.ff_forms.specs.Forms.{form_of}
 use Rattle.ff_parser.specs.declared.nest.Definition.{Definition}
 use Rattle.ff_parser.specs.declared.nest.Definition.TheVariants as definition
@@ -112,8 +111,3 @@ abbrev pub Leads : Result Nest SyntaxFault → (Nest → Judged File) → Judged
 Leads (Ok next) behind there = there ≡ behind next
 Leads (Err Memory) behind there = Unit {0}
 Leads (Err (At line rule)) behind there = there ≡ Err (line, rule)
-
--- the tokens of each statement lie in a source of this length
-abbrev pub EachLies : ℕ → List Stmt → Type 0
-EachLies bytes [] = Unit {0}
-EachLies bytes (statement ∷ statements) = AllLie bytes statement.tokens.items × EachLies bytes statements

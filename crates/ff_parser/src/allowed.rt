@@ -69,8 +69,8 @@ fn closes(kind: &Kind, end: End) -> bool
         (_, End::Bare) => true,
         (Kind::Unit { is_module, .. }, End::Program) => !*is_module,
         (Kind::Unit { is_module, .. }, End::Module) => *is_module,
-        (Kind::Procedure { header, .. }, End::Subroutine) => header.is_function != 1,
-        (Kind::Procedure { header, .. }, End::Function) => header.is_function == 1,
+        (Kind::Procedure { header, .. }, End::Subroutine) => header.get().is_function != 1,
+        (Kind::Procedure { header, .. }, End::Function) => header.get().is_function == 1,
         _ => false,
     }
 }

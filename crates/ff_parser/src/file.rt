@@ -1,10 +1,9 @@
 //! Statements to a file.
-ghost use Rattle.std.specs.Prelude.{◌≡◌, ◌∷◌, List, ℕ, length, Ok, IfOk};
+ghost use Rattle.std.specs.Prelude.{◌≡◌, ◌∷◌, List, ℕ, Ok, IfOk};
 ghost use Rattle.ff_lexer.specs.Statements.{Spelled};
-ghost use Rattle.ff_lexer.specs.Spans.{spelled_statement, spelled_statements, views, view, StatementsLie};
-ghost use Rattle.ff_expressions.specs.Items.{AllLie};
+ghost use Rattle.ff_lexer.specs.Spans.{spelled_statement, spelled_statements, view};
 ghost use Rattle.ff_parser.specs.Taken.{taken};
-ghost use Rattle.ff_parser.specs.Files.{is_too_deep, broken, step, line_of_definition, line_of_open, closed_file, ended, file_behind, file_in, Answers, Leads, EachLies};
+ghost use Rattle.ff_parser.specs.Files.{is_too_deep, broken, step, line_of_definition, line_of_open, closed_file, ended, file_behind, file_in, Answers, Leads};
 
 use crate::allowed::is_allowed;
 use crate::inner::{from_construct, from_definition};
@@ -89,7 +88,6 @@ fn step(alloc: Global, nest: Nest, formed: Formed) -> Result<Nest, SyntaxFault>
 
 // What is open behind a statement.
 fn next(alloc: Global, nest: Nest, source: &[u8], stmt: &Stmt) -> Result<Nest, SyntaxFault>
-    requires { AllLie (length source.now) stmt.now.tokens.items }
     ensures { (more : List (ℕ × List Spelled)) → Leads result (λ behind. file_behind behind more) (file_behind nest (spelled_statement source.now (view stmt.now) ∷ more)) }
 {
     match read_form(alloc, source, stmt) {
@@ -142,19 +140,6 @@ fn ended(nest: Nest) -> Result<File, SyntaxFault>
     closed_file(nest, line)
 }
 
-fn parse_all(alloc: Global, stmts: &[Stmt], source: &[u8]) -> Result<File, SyntaxFault>
-    requires { EachLies (length source.now) stmts.now }
-    ensures { Answers (λ file. file) result (file_in (spelled_statements source.now stmts.now)) }
-{
-    let mut nest = Nest::Outside {
-        units: Items::new(alloc),
-    };
-    for stmt in stmts {
-        nest = next(alloc, nest, source, stmt)?;
-    }
-    ended(nest)
-}
-
 /// The file that the statements of a source are (ISO/IEC 1539-1:2018, 5.1), or the first statement that breaks a rule, with the least
 /// of the rules that it breaks:
 ///
@@ -166,8 +151,13 @@ fn parse_all(alloc: Global, stmts: &[Stmt], source: &[u8]) -> Result<File, Synta
 /// Where no statement breaks one, and a unit, a procedure, a definition or a construct is open at the end, it is E204 with the line of
 /// the first statement of the innermost.
 pub fn parse(alloc: Global, stmts: &[Stmt], source: &[u8]) -> Result<File, SyntaxFault>
-    requires { StatementsLie 0 (length source.now) (views stmts.now) }
     ensures { Answers (λ file. file) result (file_in (spelled_statements source.now stmts.now)) }
 {
-    parse_all(alloc, stmts, source)
+    let mut nest = Nest::Outside {
+        units: Items::new(alloc),
+    };
+    for stmt in stmts {
+        nest = next(alloc, nest, source, stmt)?;
+    }
+    ended(nest)
 }

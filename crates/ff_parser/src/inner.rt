@@ -8,7 +8,7 @@ use crate::take::{declared, executed, level, level_of, push};
 use ast_nodes::{Arm, Case, Decl, Expr, Statement, Unit, Vars};
 use ff_forms::Form;
 use lf_base::{Memory, Name};
-use sqlite_items::Items;
+use sqlite_items::{Boxed, Items};
 use std::alloc::Global;
 
 fn decl_of(definition: Definition) -> Decl
@@ -230,7 +230,7 @@ fn conditional(
 fn selection(
     line: u32,
     construct: Option<Name>,
-    value: Expr,
+    value: Boxed<Expr>,
     cases: Result<Items<Case>, Memory>,
 ) -> Result<Statement, Memory>
     ensures { Follows result cases (λ all. Statement.Select line construct value all) }
@@ -399,7 +399,7 @@ fn next_arm(
 }
 
 fn labelled(
-    value: Expr,
+    value: Boxed<Expr>,
     cases: Result<Items<Case>, Memory>,
     next: Label,
     has_default: bool,

@@ -15,7 +15,7 @@ fn name_of(kind: &Kind) -> &Name
 {
     match kind {
         Kind::Unit { name, .. } => name,
-        Kind::Procedure { header, .. } => &header.name,
+        Kind::Procedure { header, .. } => &header.get().name,
     }
 }
 

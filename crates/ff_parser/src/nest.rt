@@ -1,7 +1,7 @@
 use crate::stack::Stack;
 use ast_nodes::{Arm, Case, CaseRange, Decl, Expr, Procedure, Statement, TypeSpec, Unit, Vars};
 use lf_base::Name;
-use sqlite_items::Items;
+use sqlite_items::{Boxed, Items};
 
 /// How far a unit or a procedure has come (ISO/IEC 1539-1:2018, 5.1): the first group of statements that may still follow in it.
 #[derive(Clone, Copy, Debug, PartialEq, Eq)]
@@ -44,8 +44,8 @@ pub enum Kind {
         procs: Items<Procedure>,
     },
     Procedure {
-        header: Header,
-        host: Host,
+        header: Boxed<Header>,
+        host: Boxed<Host>,
     },
 }
 
@@ -94,16 +94,16 @@ pub enum Parts {
     },
     Do {
         variable: Name,
-        lower: Expr,
-        upper: Expr,
-        step: Option<Expr>,
+        lower: Boxed<Expr>,
+        upper: Boxed<Expr>,
+        step: Option<Boxed<Expr>>,
     },
     While {
-        condition: Option<Expr>,
+        condition: Option<Boxed<Expr>>,
     },
     /// The cases that are closed, the label of the open one, and whether `case default` stood.
     Select {
-        value: Expr,
+        value: Boxed<Expr>,
         cases: Items<Case>,
         label: Option<Label>,
         has_default: bool,

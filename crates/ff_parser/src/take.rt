@@ -7,7 +7,7 @@ use crate::stack::Stack;
 use ast_nodes::{Decl, Expr, Procedure, Statement, Unit};
 use ff_forms::Form;
 use lf_base::{Memory, Name};
-use sqlite_items::Items;
+use sqlite_items::{Boxed, Items};
 use std::alloc::Global;
 
 pub fn push<T: Drop>(items: &mut Items<T>, item: T) -> Result<(), Memory>
@@ -113,16 +113,40 @@ fn host_of(scope: Scope) -> Option<Host>
     }
 }
 
+fn boxed<T: Drop>(alloc: Global, value: T) -> Result<Boxed<T>, Memory>
+    ensures { IfOk result (λ b. b ≡ value) }
+{
+    match Boxed::new(alloc, value) {
+        Ok(value) => Ok(value),
+        Err(_) => Err(Memory),
+    }
+}
+
+fn procedure_in(alloc: Global, host: Host, header: Header) -> Result<Kind, Memory>
+    ensures { IfOk result (λ kind. kind ≡ Kind.Procedure header host) }
+{
+    let header = boxed(alloc, header)?;
+    let host = boxed(alloc, host)?;
+    Ok(Kind::Procedure { header, host })
+}
+
 // A procedure begins.
-fn entered(alloc: Global, units: Items<Unit>, host: Option<Host>, line: u32, header: Header) -> Nest
-    ensures { result ≡ entered units host line header }
+fn entered(
+    alloc: Global,
+    units: Items<Unit>,
+    host: Option<Host>,
+    line: u32,
+    header: Header,
+) -> Result<Nest, Memory>
+    ensures { IfOk result (λ nest. nest ≡ entered units host line header) }
 {
     match host {
-        Some(host) => Nest::Scope {
-            units,
-            scope: begun(alloc, line, Kind::Procedure { header, host }),
-        },
-        None => Nest::Outside { units },
+        Some(host) => {
+            let kind = procedure_in(alloc, host, header)?;
+            let scope = begun(alloc, line, kind);
+            Ok(Nest::Scope { units, scope })
+        }
+        None => Ok(Nest::Outside { units }),
     }
 }
 
@@ -205,8 +229,8 @@ fn closed(units: Items<Unit>, scope: Scope) -> Result<Nest, Memory>
             procs,
         } => with_unit(units, unit_of(line, name, is_module, decls, stmts, procs)),
         Kind::Procedure { header, host } => {
-            let procedure = procedure_of(line, header, decls, stmts);
-            let scope = resumed(host, procedure)?;
+            let procedure = procedure_of(line, header.into_inner(), decls, stmts);
+            let scope = resumed(host.into_inner(), procedure)?;
             Ok(Nest::Scope { units, scope })
         }
     }
@@ -255,7 +279,7 @@ fn if_then(alloc: Global, line: u32, condition: Expr) -> Parts
     }
 }
 
-fn select(alloc: Global, value: Expr) -> Parts
+fn select(alloc: Global, value: Boxed<Expr>) -> Parts
     ensures { result ≡ Parts.Select value [] None false }
 {
     Parts::Select {
@@ -327,8 +351,8 @@ fn begun_in_scope(
     mut scope: Scope,
     line: u32,
     form: Form,
-) -> Nest
-    ensures { result ≡ begun_in_scope units scope line form }
+) -> Result<Nest, Memory>
+    ensures { IfOk result (λ nest. nest ≡ begun_in_scope units scope line form) }
 {
     match form {
         Form::TypeDef { name, access } => {
@@ -338,11 +362,11 @@ fn begun_in_scope(
                 access,
                 components: Items::new(alloc),
             };
-            Nest::Definition {
+            Ok(Nest::Definition {
                 units,
                 scope,
                 definition,
-            }
+            })
         }
         Form::Interface { name } => {
             let definition = Definition::Interface {
@@ -350,15 +374,15 @@ fn begun_in_scope(
                 name,
                 names: Items::new(alloc),
             };
-            Nest::Definition {
+            Ok(Nest::Definition {
                 units,
                 scope,
                 definition,
-            }
+            })
         }
         Form::Contains => {
             scope.stage = Stage::Procedures;
-            Nest::Scope { units, scope }
+            Ok(Nest::Scope { units, scope })
         }
         Form::Procedure {
             name,
@@ -376,7 +400,10 @@ fn begun_in_scope(
             };
             entered(alloc, units, host_of(scope), line, header)
         }
-        other => opened_in_scope(alloc, units, scope, level_of(alloc, line, other)),
+        other => {
+            let inner = level_of(alloc, line, other);
+            Ok(opened_in_scope(alloc, units, scope, inner))
+        }
     }
 }
 
@@ -409,6 +436,6 @@ pub fn from_scope(
             drop(name);
             closed(units, scope)
         }
-        other => Ok(begun_in_scope(alloc, units, scope, line, other)),
+        other => begun_in_scope(alloc, units, scope, line, other),
     }
 }

@@ -8,9 +8,9 @@ ghost use Rattle.ast_nodes.specs.Node.{behind_blank, node, listed, optional};
 ghost use Rattle.ast_nodes.specs.Text.{bound_text, bound_texts, length_text, type_text, attribute_text, attribute_texts, entity_text, entity_texts, vars_text, component_texts, rename_text, rename_texts, use_text, decl_text, decl_texts};
 
 use crate::declaration::{Attribute, Bound, Decl, Entity, Length, Rename, TypeSpec, UseStmt, Vars};
-use crate::print::expression::put_led_expr;
+use crate::print::expression::put_operand;
 use crate::print::field::{Field, put_node, put_optional_expr};
-use crate::print::piece::{Ended, put, put_name, put_number, put_tag, put_word};
+use crate::print::piece::{Ended, put, put_missing, put_name, put_number, put_tag};
 use lf_base::{Name, Sink};
 
 #[tactic(auto, using(crate::proofs::Chains::chains))]
@@ -54,9 +54,9 @@ fn put_optional_length<O: Sink>(before: Ended, out: &mut O, length: &Option<Leng
     ensures { Prints O.contents O.faults O.keeps before result out.old out.new (behind_blank (optional (option_map length_text length.now))) }
 {
     match length {
-        None => put_word(before, out, b"-"),
+        None => put_missing(before, out),
         Some(Length::Star) => put_star(before, out),
-        Some(Length::Given { value }) => put_led_expr(before, out, b" ", value),
+        Some(Length::Given { value }) => put_operand(before, out, value),
     }
 }
 
@@ -102,7 +102,7 @@ pub(crate) fn put_optional_type<O: Sink>(
 {
     match type_spec {
         Some(type_spec) => put_led_type(before, out, b" ", type_spec),
-        None => put_word(before, out, b"-"),
+        None => put_missing(before, out),
     }
 }
 

@@ -8,9 +8,9 @@ ghost use Rattle.ast_nodes.specs.Exprs.{expr_text, designator_text};
 ghost use Rattle.ast_nodes.specs.Fields.{field_text, field_texts};
 
 use crate::expression::{Designator, Expr};
-use crate::print::expression::{put_exprs, put_led_expr, put_place};
+use crate::print::expression::{put_exprs, put_place, put_value};
 use crate::print::piece::{
-    Ended, put, put_name, put_names, put_number, put_optional_name, put_tag, put_word,
+    Ended, put, put_missing, put_name, put_names, put_number, put_optional_name, put_tag,
 };
 use lf_base::{Name, Sink};
 use sqlite_items::Items;
@@ -33,8 +33,8 @@ pub(crate) fn put_optional_expr<O: Sink>(before: Ended, out: &mut O, expr: &Opti
     ensures { Prints O.contents O.faults O.keeps before result out.old out.new (behind_blank (optional (option_map expr_text expr.now))) }
 {
     match expr {
-        Some(expr) => put_led_expr(before, out, b" ", expr),
-        None => put_word(before, out, b"-"),
+        Some(expr) => put_value(before, out, expr),
+        None => put_missing(before, out),
     }
 }
 
@@ -43,7 +43,7 @@ fn put_optional_place<O: Sink>(before: Ended, out: &mut O, place: &Option<Design
 {
     match place {
         Some(place) => put_place(before, out, place),
-        None => put_word(before, out, b"-"),
+        None => put_missing(before, out),
     }
 }
 
@@ -55,7 +55,7 @@ fn put_field<O: Sink>(before: Ended, out: &mut O, field: Field<'_>) -> Ended
         Field::Word(name) => put_name(before, out, name),
         Field::OptionalName(name) => put_optional_name(before, out, name),
         Field::Names(names) => put_names(before, out, names.as_slice()),
-        Field::Value(expr) => put_led_expr(before, out, b" ", expr),
+        Field::Value(expr) => put_value(before, out, expr),
         Field::OptionalValue(expr) => put_optional_expr(before, out, expr),
         Field::Values(exprs) => put_exprs(before, out, exprs.as_slice()),
         Field::Place(place) => put_place(before, out, place),

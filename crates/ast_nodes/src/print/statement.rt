@@ -6,6 +6,7 @@ ghost use Rattle.ast_nodes.specs.Prints.{Prints};
 ghost use Rattle.ast_nodes.specs.Node.{behind_blank, listed, optional};
 ghost use Rattle.ast_nodes.specs.Text.{range_text, range_texts, stmt_text, stmt_texts, arm_text, arm_texts, case_text, case_texts};
 
+use crate::print::expression::put_optional_operand;
 use crate::print::field::{Field, put_front, put_node, put_optional_expr};
 use crate::print::piece::{Ended, put, put_number, put_tag};
 use crate::statement::{Arm, Case, CaseRange, Statement};
@@ -97,11 +98,11 @@ fn put_stmt<O: Sink>(before: Ended, out: &mut O, stmt: &Statement) -> Ended
                     Field::Number(*line),
                     Field::OptionalName(construct),
                     Field::Word(variable),
-                    Field::Value(lower),
-                    Field::Value(upper),
-                    Field::OptionalValue(step),
+                    Field::Value(lower.get()),
+                    Field::Value(upper.get()),
                 ],
             );
+            let ended = put_optional_operand(ended, out, step);
             let ended = put_stmts(ended, out, body.as_slice());
             put(ended, out, b")")
         }
@@ -115,12 +116,9 @@ fn put_stmt<O: Sink>(before: Ended, out: &mut O, stmt: &Statement) -> Ended
                 before,
                 out,
                 b"While",
-                &[
-                    Field::Number(*line),
-                    Field::OptionalName(construct),
-                    Field::OptionalValue(condition),
-                ],
+                &[Field::Number(*line), Field::OptionalName(construct)],
             );
+            let ended = put_optional_operand(ended, out, condition);
             let ended = put_stmts(ended, out, body.as_slice());
             put(ended, out, b")")
         }
@@ -137,7 +135,7 @@ fn put_stmt<O: Sink>(before: Ended, out: &mut O, stmt: &Statement) -> Ended
                 &[
                     Field::Number(*line),
                     Field::OptionalName(construct),
-                    Field::Value(value),
+                    Field::Value(value.get()),
                 ],
             );
             let ended = put_cases(ended, out, cases.as_slice());

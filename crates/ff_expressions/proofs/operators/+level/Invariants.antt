@@ -1,27 +1,16 @@
-use Rattle.std.proofs.Common.{◌≡◌, ◌+◌, ℕ}
-use Rattle.ff_expressions.specs.declared.level.Level.{Level}
-use Rattle.ff_expressions.specs.declared.level.Level.TheVariants.{Equivalence, Disjunction, Conjunction, Relation, Concatenation, Addition, Multiplication, Power}
+use Rattle.std.proofs.Common.{◌≡◌, ◌+◌, ◌*◌}
+use Rattle.ff_expressions.specs.Binding.{rank}
 use Rattle.ff_expressions.specs.Expressions.{to_left, operand_of, others_after, still_left}
 use Rattle.ff_expressions.proofs.operators.+level.Given as goal
 
-abbrev rank : Level → ℕ
-rank Power = 0
-rank Multiplication = 4
-rank Addition = 8
-rank Concatenation = 12
-rank Relation = 16
-rank Conjunction = 20
-rank Disjunction = 24
-rank Equivalence = 28
-
 abbrev pub decreases-operand : goal.decreases-operand
-decreases-operand l = rank l.level
+decreases-operand l = 4 * rank l.level
 
 abbrev pub decreases-to_left : goal.decreases-to_left
-decreases-to_left l = rank l.level + 1
+decreases-to_left l = 4 * rank l.level + 1
 
 abbrev pub decreases-left_level : goal.decreases-left_level
-decreases-left_level l = rank l.level + 2
+decreases-left_level l = 4 * rank l.level + 2
 
 abbrev pub decreases-sum : goal.decreases-sum
 decreases-sum l = 10

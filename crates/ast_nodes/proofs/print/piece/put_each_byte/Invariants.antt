@@ -1,7 +1,7 @@
 use Rattle.std.proofs.Common.{drop}
 use Rattle.ast_nodes.specs.Prints.{Awaits}
 use Rattle.ast_nodes.specs.Node.{byte_texts}
-use Rattle.ast_nodes.proofs.print.piece.put_bytes.Given as goal
+use Rattle.ast_nodes.proofs.print.piece.put_each_byte.Given as goal
 
 -- what is left to print
 abbrev pub invariant-loop-byte : goal.invariant-loop-byte

@@ -1,6 +1,6 @@
 use Rattle.std.proofs.Common.{◌≡◌, ◌++◌, length}
 use Rattle.ff_expressions.specs.Pieces.{pieces_from, pieces_of}
-use Rattle.ff_expressions.proofs.piece.pieces.Given as goal
+use Rattle.ff_expressions.proofs.piece.divided.Given as goal
 
 abbrev pub invariant-loop-item : goal.invariant-loop-item
 invariant-loop-item l = l.done ++ pieces_from l.mark l.piece l.items ≡ pieces_of l.mark l.fn.items

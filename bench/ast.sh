@@ -60,9 +60,9 @@ def in_program(body):
 
 
 def continued():
-    """One statement of 255 continuations."""
-    first = "print *, " + "1+" * 60 + "&\n"
-    return in_program(first + ("(1)+" * 32 + "&\n") * 254 + "1\n")
+    """One statement of 255 continuations, with some 6,600 expressions."""
+    first = "print *, " + "1, " * 40 + "&\n"
+    return in_program(first + ("(1), " * 26 + "&\n") * 254 + "1\n")
 
 
 def nested():

@@ -26,6 +26,7 @@ fn statements_in_no_form_are_told(rt: HostRuntime) -> Result<(), Fail> {
         ("integer : : x", "2: E201"),
         ("integer x = 1", "2: E201"),
         ("integer(4_4) x", "2: E201"),
+        ("contains\nelseif", "3: E201"),
         ("c: x = 1", "2: E201"),
     ];
     refuses_lines(&rt, rt.alloc(), &cases)
@@ -118,12 +119,13 @@ fn what_is_open_at_the_end_is_told_at_its_first_line(rt: HostRuntime) -> Result<
     refuses(&rt, rt.alloc(), &cases)
 }
 
-// `if (a) then` so many times, with its ends
+// `if (a) then` so many times round an action behind a condition, with its ends
 fn nested(alloc: Global, depth: usize) -> Result<Vec<u8>, AllocError> {
     let mut source = Vec::from_slice(alloc, b"program p\n")?;
     for _ in 0..depth {
         source.extend_from_slice(b"if (a) then\n")?;
     }
+    source.extend_from_slice(b"if (a) x = 1\n")?;
     for _ in 0..depth {
         source.extend_from_slice(b"end if\n")?;
     }
@@ -131,16 +133,23 @@ fn nested(alloc: Global, depth: usize) -> Result<Vec<u8>, AllocError> {
     Ok(source)
 }
 
-// a literal in so many parentheses, each on a line of its own, with what stands behind it
-fn in_parentheses(alloc: Global, depth: usize, behind: &[u8]) -> Result<Vec<u8>, AllocError> {
-    let mut source = Vec::from_slice(alloc, b"program p\nx = &\n")?;
+// an expression in so many parentheses, each fifty on a line, with what stands around it
+fn in_parentheses(
+    alloc: Global,
+    front: &[u8],
+    depth: usize,
+    inner: &[u8],
+    behind: &[u8],
+) -> Result<Vec<u8>, AllocError> {
+    let mut source = Vec::from_slice(alloc, b"program p\n")?;
+    source.extend_from_slice(front)?;
     for at in 0..depth {
         source.push(b'(')?;
         if at % 50 == 49 {
             source.extend_from_slice(b"&\n")?;
         }
     }
-    source.push(b'1')?;
+    source.extend_from_slice(inner)?;
     for at in 0..depth {
         source.push(b')')?;
         if at % 50 == 49 {
@@ -166,22 +175,61 @@ fn constructs_and_expressions_have_a_greatest_depth(rt: HostRuntime) -> Result<(
     told(&rt, alloc, accepted.as_slice(), "")?;
     let refused = nested(alloc, 65)?;
     told(&rt, alloc, refused.as_slice(), "s.f90:66: E206\n")?;
-    let accepted = in_parentheses(alloc, 255, b"")?;
+    // a name alone has depth 2
+    let accepted = in_parentheses(alloc, b"x = &\n", 254, b"y", b"")?;
     told(&rt, alloc, accepted.as_slice(), "")?;
-    let refused = in_parentheses(alloc, 256, b"")?;
+    let refused = in_parentheses(alloc, b"x = &\n", 255, b"y", b"")?;
     told(&rt, alloc, refused.as_slice(), "s.f90:2: E206\n")?;
     // in no form, whatever its depth
-    let refused = in_parentheses(alloc, 6000, b" +")?;
+    let refused = in_parentheses(alloc, b"x = &\n", 6000, b"1", b" +")?;
     told(&rt, alloc, refused.as_slice(), "s.f90:2: E201\n")
 }
 
-// a first line, so many continuations with a comment behind each, and an end
-fn continued(alloc: Global, lines: usize) -> Result<Vec<u8>, AllocError> {
-    let mut source = Vec::from_slice(alloc, b"program p\nx = 1 &\n")?;
-    for _ in 1..lines {
+#[test]
+fn each_expression_has_the_greatest_depth(rt: HostRuntime) -> Result<(), Fail> {
+    let alloc = rt.alloc();
+    let places: [(&[u8], &[u8], &str); 12] = [
+        (b"x = &\n", b"", "s.f90:2: E206\n"),
+        (b"integer :: a(&\n", b")", "s.f90:2: E206\n"),
+        (b"integer :: a(0:&\n", b")", "s.f90:2: E206\n"),
+        (b"character(len=&\n", b") :: c", "s.f90:2: E206\n"),
+        (b"integer :: a = &\n", b"", "s.f90:2: E206\n"),
+        (b"if (&\n", b") x = 1", "s.f90:2: E206\n"),
+        (b"do i = 1, &\n", b"\nend do", "s.f90:2: E206\n"),
+        (b"select case (&\n", b")\nend select", "s.f90:2: E206\n"),
+        (
+            b"select case (a)\ncase (&\n",
+            b":)\nend select",
+            "s.f90:3: E206\n",
+        ),
+        (b"call s(&\n", b")", "s.f90:2: E206\n"),
+        (b"print *, 1, &\n", b"", "s.f90:2: E206\n"),
+        (b"stop &\n", b"", "s.f90:2: E206\n"),
+    ];
+    for place in &places {
+        let accepted = in_parentheses(alloc, place.0, 255, b"1", place.1)?;
+        told(&rt, alloc, accepted.as_slice(), "")?;
+        let refused = in_parentheses(alloc, place.0, 256, b"1", place.1)?;
+        told(&rt, alloc, refused.as_slice(), place.2)?;
+    }
+    Ok(())
+}
+
+// a statement of so many continuations, with a comment and a blank line in front of each
+fn continue_it(source: &mut Vec<u8>, continuations: usize) -> Result<(), AllocError> {
+    source.extend_from_slice(b"x = 1 &\n")?;
+    for _ in 1..continuations {
         source.extend_from_slice(b"! between\n\n+ 1 &\n")?;
     }
-    source.extend_from_slice(b"+ 1\nend\n")?;
+    source.extend_from_slice(b"+ 1\n")
+}
+
+// two such statements
+fn continued(alloc: Global, first: usize, second: usize) -> Result<Vec<u8>, AllocError> {
+    let mut source = Vec::from_slice(alloc, b"program p\n")?;
+    continue_it(&mut source, first)?;
+    continue_it(&mut source, second)?;
+    source.extend_from_slice(b"end\n")?;
     Ok(source)
 }
 
@@ -203,8 +251,12 @@ fn lines_and_statements_have_a_greatest_length(rt: HostRuntime) -> Result<(), Fa
     told(&rt, alloc, accepted.as_slice(), "")?;
     let refused = commented(alloc, 133, b"")?;
     told(&rt, alloc, refused.as_slice(), "s.f90:2: E103\n")?;
-    let accepted = continued(alloc, 255)?;
+    // each statement counts its own continuations
+    let accepted = continued(alloc, 255, 255)?;
     told(&rt, alloc, accepted.as_slice(), "")?;
-    let refused = continued(alloc, 256)?;
-    told(&rt, alloc, refused.as_slice(), "s.f90:2: E104\n")
+    let refused = continued(alloc, 256, 255)?;
+    told(&rt, alloc, refused.as_slice(), "s.f90:2: E104\n")?;
+    // the first has 3 lines a continuation, but one for its last, and one line more
+    let refused = continued(alloc, 255, 256)?;
+    told(&rt, alloc, refused.as_slice(), "s.f90:766: E104\n")
 }

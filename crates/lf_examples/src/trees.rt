@@ -116,6 +116,18 @@ fn actions_are_shown(rt: HostRuntime) -> Result<(), Fail> {
             "(Print 2 2 1 [(Int \"5\" 0)])",
         ),
         (
+            "write (*, '(A)', advance='no\t') 'x'",
+            "(Print 2 1 1 [(Char \"x\")])",
+        ),
+        (
+            "if (a) call s\nif (a) continue\nif (a) stop\nif (a) error stop",
+            "(If 2 - [(Arm 2 (Ref [(Part a)]) [(Call 2 s [])])]) (If 3 - [(Arm 3 (Ref [(Part a)]) [(Continue 3)])]) (If 4 - [(Arm 4 (Ref [(Part a)]) [(Stop 4 0 -)])]) (If 5 - [(Arm 5 (Ref [(Part a)]) [(Stop 5 1 -)])])",
+        ),
+        (
+            "if (a) exit\nif (a) cycle\nif (a) print *\nif (a) write (*, *)\nif (a) read (*, '(A)') c",
+            "(If 2 - [(Arm 2 (Ref [(Part a)]) [(Exit 2 -)])]) (If 3 - [(Arm 3 (Ref [(Part a)]) [(Cycle 3 -)])]) (If 4 - [(Arm 4 (Ref [(Part a)]) [(Print 4 0 0 [])])]) (If 5 - [(Arm 5 (Ref [(Part a)]) [(Print 5 0 0 [])])]) (If 6 - [(Arm 6 (Ref [(Part a)]) [(Read 6 (Ref [(Part c)]) -)])])",
+        ),
+        (
             "read (*, '(A)') c; read (*, '(a)', iostat=v%i) c(1:2)",
             "(Read 2 (Ref [(Part c)]) -) (Read 2 (Ref [(Part c) (Group [(Triple (Int \"1\" 0) (Int \"2\" 0) -)])]) (Ref [(Part v) (Part i)]))",
         ),
@@ -178,7 +190,10 @@ fn declarations_are_shown(rt: HostRuntime) -> Result<(), Fail> {
             "use m, only: a, b => c\nuse m, d => e\nuse m, only => x",
             "(Use 2 m 1 [(Rename a a) (Rename b c)]) (Use 3 m 0 [(Rename d e)]) (Use 4 m 0 [(Rename only x)])",
         ),
-        ("implicit none", "(ImplicitNone 2)"),
+        (
+            "implicit none\ninteger x\nimplicit none",
+            "(ImplicitNone 2) (Vars 3 (Integer 4) [] [(Entity x [] -)]) (ImplicitNone 4)",
+        ),
         (
             "integer, parameter :: n = 1, m(2) = [1, 2]",
             "(Vars 2 (Integer 4) [(Parameter)] [(Entity n [] (Int \"1\" 0)) (Entity m [(Bound - (Int \"2\" 0))] (Array [(Int \"1\" 0) (Int \"2\" 0)]))])",
@@ -221,7 +236,7 @@ fn declarations_are_shown(rt: HostRuntime) -> Result<(), Fail> {
 
 #[test]
 fn units_are_shown_one_a_line(rt: HostRuntime) -> Result<(), Fail> {
-    let cases: [(&[u8], &str); 4] = [
+    let cases: [(&[u8], &str); 5] = [
         (
             b"program p\nprint *, 2+3*4\nend program p\n",
             "(Program 1 p [] [(Print 2 0 0 [(Binary 0 (Int \"2\" 0) (Binary 2 (Int \"3\" 0) (Int \"4\" 0)))])] [])\n",
@@ -237,6 +252,10 @@ fn units_are_shown_one_a_line(rt: HostRuntime) -> Result<(), Fail> {
         (
             b"module procedure\ncontains\nfunction f()\nend\nlogical recursive function g()\nend\nend module procedure\n",
             "(Module 1 procedure [] [(Proc 3 f 1 - [] - [] []) (Proc 5 g 1 (Logical) [] - [] [])])\n",
+        ),
+        (
+            b"module m\ncontains\nend module m\nprogram p\ncontains\ninteger(kind=8) recursive function f()\nend\nsubroutine s()\nend subroutine\nend\n",
+            "(Module 1 m [] [])\n(Program 4 p [] [] [(Proc 6 f 1 (Integer 8) [] - [] []) (Proc 8 s 0 - [] - [] [])])\n",
         ),
     ];
     shows(&rt, rt.alloc(), &cases)

@@ -79,21 +79,51 @@ def of(words):
     return status, took
 
 
-def measured(words, runs):
-    """The status, the shortest time in seconds and the greatest memory in bytes."""
-    found = [of(words) for _ in range(runs)]
+def memory_of(words):
+    """The greatest memory in bytes."""
     asked = subprocess.run(
         ["/usr/bin/time", "-f", "%M", *words], stdout=subprocess.DEVNULL, stderr=subprocess.PIPE, text=True
     )
-    return found[0][0], min(took for _, took in found), int(asked.stderr.split()[-1]) * KIB
+    return int(asked.stderr.split()[-1]) * KIB
+
+
+def written(name, source):
+    with open(name, "w", newline="") as file:
+        file.write(source)
+    return [PROGRAM, "ast", name], len(source)
+
+
+def told(name, status, took, memory, size):
+    print(f"{name:36} status {status} {took * 1000:9.2f} ms {memory / size:8.1f} bytes a byte")
 
 
 def row(name, source, runs=5):
-    with open("s.f90", "w", newline="") as file:
-        file.write(source)
-    status, took, memory = measured([PROGRAM, "ast", "s.f90"], runs)
-    print(f"{name:36} status {status} {took * 1000:9.2f} ms {memory / len(source):8.1f} bytes a byte")
-    return took
+    """The shortest of some runs."""
+    words, size = written("s.f90", source)
+    found = [of(words) for _ in range(runs)]
+    told(name, found[0][0], min(took for _, took in found), memory_of(words), size)
+
+
+def beside_gfortran(runs=6):
+    """Code of 512 KiB and of 1 MiB, run in turns, half of them in front of gfortran and half behind it."""
+    half, half_size = written("half.f90", code(512 * KIB))
+    whole, whole_size = written("whole.f90", code(GREATEST))
+    gfortran = shutil.which("gfortran")
+    times = {"half": [], "whole": []}
+    for turn in range(runs):
+        if gfortran and turn == runs // 2:
+            status, took_there = of([gfortran, "-fsyntax-only", "whole.f90"])
+        for name, words in (("half", half), ("whole", whole)):
+            times[name].append(of(words)[1])
+    least, most = min(times["half"]), min(times["whole"])
+    told("code of 512 KiB", of(half)[0], least, memory_of(half), half_size)
+    told("code of 1 MiB", of(whole)[0], most, memory_of(whole), whole_size)
+    print(f"{'from 512 KiB to 1 MiB':36} {most / least:.2f}-fold (at most 2.2)")
+    if gfortran:
+        ratio = took_there / most
+        print(f"{'gfortran -fsyntax-only on 1 MiB':36} status {status} {took_there * 1000:9.2f} ms: {ratio:.0f}-fold (at least 20)")
+    else:
+        print("gfortran is missing, its time was not measured")
 
 
 if not os.access(PROGRAM, os.X_OK):
@@ -101,15 +131,7 @@ if not os.access(PROGRAM, os.X_OK):
     sys.exit(0)
 for size in (64, 128, 256):
     row(f"code of {size} KiB", code(size * KIB))
-half = row("code of 512 KiB", code(512 * KIB))
-whole = row("code of 1 MiB", code(GREATEST))
-print(f"{'from 512 KiB to 1 MiB':36} {whole / half:.2f}-fold (at most 2.2)")
-gfortran = shutil.which("gfortran")
-if gfortran:
-    status, took, _ = measured([gfortran, "-fsyntax-only", "s.f90"], 1)
-    print(f"{'gfortran -fsyntax-only on 1 MiB':36} status {status} {took * 1000:9.2f} ms: {took / whole:.0f}-fold (at least 20)")
-else:
-    print("gfortran is missing, its time was not measured")
+beside_gfortran()
 row("lines of 132 blanks", filled(" " * 132 + "\n"))
 row("one name a line", filled("a\n"))
 row("( within the limits", nested())

@@ -104,7 +104,7 @@ def row(name, source, runs=5):
     told(name, found[0][0], min(took for _, took in found), memory_of(words), size)
 
 
-def beside_gfortran(runs=6):
+def beside_gfortran(runs=12):
     """Code of 512 KiB and of 1 MiB, run in turns, half of them in front of gfortran and half behind it."""
     half, half_size = written("half.f90", code(512 * KIB))
     whole, whole_size = written("whole.f90", code(GREATEST))

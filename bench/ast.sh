@@ -3,23 +3,15 @@
 # those of `gfortran -fsyntax-only` on the same source: the ratio of the times, the growth from half the source to the
 # whole, and the memory a byte of source. It is no part of the gate.
 set -eu
-top=$(cd "$(dirname "$0")/.." && pwd)
-program=${LFORTRAN_CLI:-$top/crates/lfortran_cli/out/lfortran_cli}
-for tool in python3 /usr/bin/time; do
-    if ! command -v "$tool" > /dev/null; then
-        echo "ast: $tool is missing, nothing was measured"
-        exit 0
-    fi
-done
-work=$(mktemp -d)
-trap 'rm -rf "$work"' EXIT
-cd "$work"
+. "$(dirname "$0")/setup.sh"
+needs ast python3 /usr/bin/time
+in_a_new_folder
 python3 - "$program" << 'PYTHON'
 import os
 import shutil
-import subprocess
 import sys
-import time
+
+from runs import greatest_memory, timed
 
 PROGRAM = sys.argv[1]
 KIB = 1024
@@ -71,22 +63,6 @@ def nested():
     return in_program(one * ((GREATEST - 64) // len(one)))
 
 
-def of(words):
-    began = time.perf_counter()
-    with open(os.devnull, "wb") as nothing:
-        status = subprocess.call(words, stdout=nothing, stderr=nothing)
-    took = time.perf_counter() - began
-    return status, took
-
-
-def memory_of(words):
-    """The greatest memory in bytes."""
-    asked = subprocess.run(
-        ["/usr/bin/time", "-f", "%M", *words], stdout=subprocess.DEVNULL, stderr=subprocess.PIPE, text=True
-    )
-    return int(asked.stderr.split()[-1]) * KIB
-
-
 def written(name, source):
     with open(name, "w", newline="") as file:
         file.write(source)
@@ -100,8 +76,8 @@ def told(name, status, took, memory, size):
 def row(name, source, runs=5):
     """The shortest of some runs."""
     words, size = written("s.f90", source)
-    found = [of(words) for _ in range(runs)]
-    told(name, found[0][0], min(took for _, took in found), memory_of(words), size)
+    found = [timed(words) for _ in range(runs)]
+    told(name, found[0][0], min(took for _, took in found), greatest_memory(words), size)
 
 
 def beside_gfortran(runs=12):
@@ -112,12 +88,12 @@ def beside_gfortran(runs=12):
     times = {"half": [], "whole": []}
     for turn in range(runs):
         if gfortran and turn == runs // 2:
-            status, took_there = of([gfortran, "-fsyntax-only", "whole.f90"])
+            status, took_there = timed([gfortran, "-fsyntax-only", "whole.f90"])
         for name, words in (("half", half), ("whole", whole)):
-            times[name].append(of(words)[1])
+            times[name].append(timed(words)[1])
     least, most = min(times["half"]), min(times["whole"])
-    told("code of 512 KiB", of(half)[0], least, memory_of(half), half_size)
-    told("code of 1 MiB", of(whole)[0], most, memory_of(whole), whole_size)
+    told("code of 512 KiB", timed(half)[0], least, greatest_memory(half), half_size)
+    told("code of 1 MiB", timed(whole)[0], most, greatest_memory(whole), whole_size)
     print(f"{'from 512 KiB to 1 MiB':36} {most / least:.2f}-fold (at most 2.2)")
     if gfortran:
         ratio = took_there / most

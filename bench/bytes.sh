@@ -4,15 +4,9 @@
 # where the status is 0 with nothing on the error output, or 1 with one line `FILE:LINE: ENNN` there, within a second.
 # It is no part of the gate.
 set -eu
-top=$(cd "$(dirname "$0")/.." && pwd)
-program=${LFORTRAN_CLI:-$top/crates/lfortran_cli/out/lfortran_cli}
-if ! command -v python3 > /dev/null; then
-    echo "bytes: python3 is missing, nothing was tried"
-    exit 0
-fi
-work=$(mktemp -d)
-trap 'rm -rf "$work"' EXIT
-cd "$work"
+. "$(dirname "$0")/setup.sh"
+needs bytes python3
+in_a_new_folder
 python3 - "$program" << 'PYTHON'
 import collections
 import os

@@ -3,44 +3,26 @@
 # `gfortran -fsyntax-only` on the same file; and then the times of statements of ever more continuations, which grow
 # with the number of their literals. It is no part of the gate.
 set -eu
-top=$(cd "$(dirname "$0")/.." && pwd)
-program=${LFORTRAN_CLI:-$top/crates/lfortran_cli/out/lfortran_cli}
-for tool in python3 /usr/bin/time; do
-    if ! command -v "$tool" > /dev/null; then
-        echo "compile: $tool is missing, nothing was measured"
-        exit 0
-    fi
-done
-work=$(mktemp -d)
-trap 'rm -rf "$work"' EXIT
-cp "$top/examples/sum/p1.f90" "$work"
-cd "$work"
+. "$(dirname "$0")/setup.sh"
+needs compile python3 /usr/bin/time
+in_a_new_folder
+cp "$top/examples/sum/p1.f90" .
 python3 - "$program" << 'PYTHON'
 import os
 import shutil
-import subprocess
 import sys
-import time
+
+from runs import greatest_memory, timed
 
 RUNS = 20
 
 
 def measured(words):
-    """The shortest time of a run in seconds, and the greatest memory of one in kilobytes.
-
-    A process counts what its parent held when it began, so the memory is asked of the small `time`.
-    """
-    shortest, greatest = None, 0
-    for _ in range(RUNS):
-        began = time.perf_counter()
-        status = subprocess.call(words)
-        took = time.perf_counter() - began
-        asked = subprocess.run(["/usr/bin/time", "-f", "%M", *words], capture_output=True, text=True)
-        if status != 0 or asked.returncode != 0:
-            return None
-        shortest = took if shortest is None else min(shortest, took)
-        greatest = max(greatest, int(asked.stderr.split()[-1]))
-    return shortest, greatest
+    """The shortest time of a run in seconds and the greatest memory of one in kilobytes, or None where one fails."""
+    found = [(*timed(words), greatest_memory(words)) for _ in range(RUNS)]
+    if any(status != 0 for status, _, _ in found):
+        return None
+    return min(took for _, took, _ in found), max(memory for _, _, memory in found) // 1024
 
 
 def row(name, tool, words):

@@ -3,13 +3,9 @@
 # fixes them: rows that trap or have no rule are left out, and so are 0**0 and bytes above 127.
 # It is no part of the gate. It prints how many rows agree, and each row that does not.
 set -eu
-top=$(cd "$(dirname "$0")/.." && pwd)
-if ! command -v gfortran > /dev/null; then
-    echo "operations: gfortran is missing, nothing was compared"
-    exit 0
-fi
-work=$(mktemp -d)
-trap 'rm -rf "$work"' EXIT
+. "$(dirname "$0")/setup.sh"
+needs operations gfortran python3
+in_a_new_folder
 python3 - "$top/crates/lf_examples/src/operations.rt" "$work" << 'PYTHON'
 import re
 import sys

@@ -1,4 +1,6 @@
 pub mod Bytes
+pub mod Continued
+pub mod Held
 pub mod Lexemes
 pub mod Lines
 pub mod Reads
@@ -6,3 +8,5 @@ pub mod Rest
 pub mod Solid
 pub mod Spans
 pub mod Statements
+pub mod Told
+pub mod Written

@@ -59,10 +59,6 @@ drafts_of text = statements_from 1 (fresh 1) (lines_from 0 text)
 abbrev pub statements_of : List ℕ → Found Spelled
 statements_of text = if nat_lt greatest_source (length text) then Err (1, E108) else found_in spelled_as (drafts_of text)
 
--- The text has this list of statements.
-abbrev pub StatementsOf : List ℕ → List (ℕ × List Spelled) → Type 0
-StatementsOf text statements = statements_of text ≡ Ok statements
-
 -- This is the first lexical fault of the text: the line that is told, and the rule.
 abbrev pub FaultOf : List ℕ → ℕ × Rule → Type 0
 FaultOf text fault = statements_of text ≡ Err fault

@@ -3,6 +3,7 @@ ghost use Rattle.ff_lexer.specs.Bytes.{behind as context_behind};
 ghost use Rattle.ff_lexer.specs.Lexemes.{Lexed, tokens_behind, meaning, so_far, both};
 ghost use Rattle.ff_lexer.specs.Lines.{Draft, breaking, lesser, fresh, broken, measured, continued, parted, placed, begins, added, in_body, at_end, then_more, on_rest, behind_blanks, on_continuation, on_line, statements_from};
 ghost use Rattle.ff_lexer.specs.Statements.{Found, greatest_source, ahead, told, found_in, drafts_of, statements_of};
+ghost use Rattle.ff_lexer.specs.Told.{Relates};
 ghost use Rattle.ff_lexer.specs.Reads.{draft, left, first_line, ending, line_size, Gives};
 ghost use Rattle.ff_lexer.specs.Spans.{token_as, end_of, views, spelled_statements, StatementsLie, Answers};
 
@@ -476,6 +477,20 @@ fn read_all(alloc: Global, source: &[u8]) -> Result<Vec<Stmt>, LexFault>
     reader.end(alloc)
 }
 
+// The same, unless the source is too large.
+fn read_source(alloc: Global, source: &[u8]) -> Result<Vec<Stmt>, LexFault>
+    ensures spelled { Answers (λ v. Ok (spelled_statements source.now v.items)) result (statements_of source.now) }
+    ensures places { IfOk result (λ v. StatementsLie 0 (length source.now) (views v.items)) }
+{
+    if source.len() > GREATEST_SOURCE {
+        return Err(LexFault::At {
+            line: 1,
+            rule: Rule::E108,
+        });
+    }
+    read_all(alloc, source)
+}
+
 /// The statements of a source in reading order, each with the tokens that it is made of (ISO/IEC 1539-1:2018, 6.2 and
 /// 6.3.2). A source of more than 1,048,576 bytes is refused with E108 at line 1. Else the first statement that breaks
 /// a rule is told, with the line on which it begins and its least rule:
@@ -488,15 +503,12 @@ fn read_all(alloc: Global, source: &[u8]) -> Result<Vec<Stmt>, LexFault>
 /// - E106: a `&` continues nothing, stands in the middle, or stands alone on its line;
 /// - E107: digits are followed at once by a letter, by `_` without exactly `4` or `8`, or by a `.` that begins no
 ///   word between points.
+///
+/// Statements are answered exactly where the text is related to such a list, which is then the only one.
 pub fn statements(alloc: Global, source: &[u8]) -> Result<Vec<Stmt>, LexFault>
     ensures spelled { Answers (λ v. Ok (spelled_statements source.now v.items)) result (statements_of source.now) }
+    ensures related { Relates source.now (λ v. spelled_statements source.now v.items) result }
     ensures places { IfOk result (λ v. StatementsLie 0 (length source.now) (views v.items)) }
 {
-    if source.len() > GREATEST_SOURCE {
-        return Err(LexFault::At {
-            line: 1,
-            rule: Rule::E108,
-        });
-    }
-    read_all(alloc, source)
+    read_source(alloc, source)
 }

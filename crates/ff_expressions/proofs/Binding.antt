@@ -16,10 +16,11 @@ use Rattle.ff_expressions.specs.declared.level.Level.{Level}
 use Rattle.ff_expressions.specs.declared.level.Level.TheVariants.{Equivalence, Disjunction, Conjunction, Relation, Concatenation, Addition, Multiplication, Power}
 use Rattle.ff_expressions.specs.Trees.{unary}
 use Rattle.ff_expressions.specs.Pieces.{mark_number, stands, is_mark}
-use Rattle.ff_expressions.specs.Expressions.{belongs, operator_of, operator_at, is_at, first_operand, other_operands, to_left, to_right, at_most_two, left_level, primary_of, power_of, term_of, operator_in, sign_in_front, behind_first, behind_sign, with_sign, sum_behind, sum_of, text_of, relation_of, negation_of, conjunction_of, disjunction_of, expression_of, operand_of}
+use Rattle.ff_expressions.specs.Expressions.{belongs, operator_of, operator_at, is_at, other_operands, to_left, to_right, at_most_two, left_level, primary_of, power_of, term_of, sign_in_front, behind_first, behind_sign, sum_behind, sum_of, text_of, relation_of, negation_of, conjunction_of, disjunction_of, operand_of}
 use Rattle.ff_expressions.specs.Binding.{rank, tighter, looseness_of, looseness_in, looseness, looseness_at, loosest_from, loosest}
 use Rattle.ff_expressions.proofs.Gathering.{at_place}
 use Rattle.ff_expressions.proofs.Operands.{none_first, none_others}
+use Rattle.ff_expressions.proofs.Undivided.{left_false}
 
 -- one more item of those that are looked at
 pub loosest_more : (items : List Item) (at found : ℕ) → at < length items → loosest_from found (drop at items) ≡ loosest_from (max found (looseness_at (slice_get items at))) (drop (at + 1) items)
@@ -148,10 +149,6 @@ down_term items h = left_none Multiplication power_of items (none Multiplication
 no_operator : (o : Option ℕ) → is_some o ≡ false → o ≡ None
 no_operator None h = refl
 no_operator (Some code) h = cc
-
-left_false : (a b : Bool) → (a || b) ≡ false → a ≡ false
-left_false true b h = h
-left_false false b h = refl
 
 no_sign : (items : List Item) → list_any (is_at Addition) items ≡ false → sign_in_front items ≡ None
 no_sign [] h = refl

@@ -1,7 +1,14 @@
 pub mod Binding
 pub mod Counting
+pub mod Firm
 pub mod Gathering
+pub mod Grammar
+pub mod Groups
+pub mod Joined
 pub mod Keeping
+pub mod Loops
 pub mod Matching
 pub mod Operands
+pub mod Parts
+pub mod Primaries
 pub mod Undivided

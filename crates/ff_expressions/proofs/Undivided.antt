@@ -6,7 +6,7 @@ use Rattle.ff_expressions.specs.declared.item.Mark.{Mark}
 use Rattle.ff_expressions.specs.declared.item.Item.{Item}
 use Rattle.ff_expressions.specs.Pieces.{is_mark, pieces_from, pieces_of}
 
-left_false : (a b : Bool) → (a || b) ≡ false → a ≡ false
+pub left_false : (a b : Bool) → (a || b) ≡ false → a ≡ false
 left_false true b h = h
 left_false false b h = refl
 

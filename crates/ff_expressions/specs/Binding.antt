@@ -1,5 +1,5 @@
 -- How loosely operators bind (ISO/IEC 1539-1:2018, table 10.1). The levels above the loosest operator of a list hand it on.
-use Rattle.std.specs.Prelude.{ℕ, ◌+◌, ◌==◌, ◌||◌, max, if◌then◌else◌, List, [], ◌∷◌, Option, Some, None}
+use Rattle.std.specs.Prelude.{ℕ, ◌==◌, ◌||◌, max, if◌then◌else◌, List, [], ◌∷◌, Option, Some, None}
 use Rattle.ff_expressions.specs.declared.item.Mark.{Mark}
 use Rattle.ff_expressions.specs.declared.item.Mark.TheVariants.{Operator}
 use Rattle.ff_expressions.specs.declared.item.Item.{Item}

@@ -2,7 +2,9 @@ pub mod Binding
 pub mod Brackets
 pub mod Depths
 pub mod Expressions
+pub mod Grammar
 pub mod Items
+pub mod Parts
 pub mod Pieces
 pub mod Signs
 pub mod Trees

@@ -5,16 +5,6 @@ use lf_base::Memory;
 use sqlite_items::Items;
 use std::alloc::Global;
 
-// Copies bytes.
-fn copied(alloc: Global, bytes: &[u8]) -> Result<Items<u8>, Memory>
-    ensures { IfOk result (λ i. i ≡ bytes.now) }
-{
-    match Items::from_slice(alloc, bytes) {
-        Ok(items) => Ok(items),
-        Err(_) => Err(Memory),
-    }
-}
-
 fn push(items: &mut Items<u8>, byte: u8) -> Result<(), Memory>
     ensures { OnOk result (items.new ≡ items.old ++ byte ∷ []) }
 {

@@ -1,6 +1,6 @@
-use Rattle.std.proofs.Common.{◌≡◌, ◌<◌, ◌≤◌, ◌∙◌, ap, subst, sym, arith}
+use Rattle.std.proofs.Common.{◌<◌, ◌≤◌, ◌∙◌, ap, subst, sym, arith}
 use Rattle.ff_expressions.specs.Expressions.{operand_of}
-use Rattle.ff_expressions.specs.Binding.{rank, tighter, loosest}
+use Rattle.ff_expressions.specs.Binding.{rank, loosest}
 use Rattle.ff_expressions.proofs.Binding.{one_down, tighter_below}
 use Rattle.ff_expressions.proofs.level.nearest.Goals as goal
 

@@ -1,6 +1,6 @@
 -- A list read one after another: what is read so far, and then the rest.
-use Rattle.std.proofs.Common.{◌≡◌, ℕ, List, [], ◌∷◌, ◌++◌, max, Option, Some, None, refl, ap, append_assoc, ◌∙◌, sym, arith}
-use Rattle.ff_forms.specs.Answers.{on, Read, all, each, with_first}
+use Rattle.std.proofs.Common.{◌≡◌, ℕ, List, [], ◌∷◌, ◌++◌, max, Option, Some, None, refl, ap, append_assoc, sym, arith}
+use Rattle.ff_forms.specs.Answers.{on, Read, with_first}
 
 abbrev pub behind : {A : Type 0} → List A → Option (List A) → Option (List A)
 behind xs rest = on rest (λ ys. Some (xs ++ ys))

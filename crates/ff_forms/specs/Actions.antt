@@ -1,7 +1,6 @@
 -- Statements that are executed where they stand (ISO/IEC 1539-1:2018, clauses 10 to 12 and 15.5).
 use Rattle.std.specs.Prelude.{ℕ, Bool, true, false, List, [], ◌∷◌, codes, max, Option, Some, None, if◌then◌else◌}
 use Rattle.ast_nodes.specs.declared.expression.Expr.{Expr}
-use Rattle.ast_nodes.specs.declared.statement.Arm.{Arm}
 use Rattle.ast_nodes.specs.declared.statement.Statement.{Statement}
 use Rattle.ast_nodes.specs.declared.statement.Statement.TheVariants as statement
 use Rattle.ff_expressions.specs.declared.item.Bracket.TheVariants.{Round}

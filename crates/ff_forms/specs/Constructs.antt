@@ -1,10 +1,9 @@
 -- The statements that begin, part and end constructs (ISO/IEC 1539-1:2018, 11.1).
-use Rattle.std.specs.Prelude.{ℕ, Bool, List, [], ◌∷◌, codes, max, slice_get, Option, Some, None, if◌then◌else◌, ◌&&◌}
+use Rattle.std.specs.Prelude.{ℕ, List, [], ◌∷◌, codes, max, slice_get, Option, Some, None, if◌then◌else◌, ◌&&◌}
 use Rattle.ast_nodes.specs.declared.expression.Expr.{Expr}
 use Rattle.ast_nodes.specs.declared.statement.CaseRange.{CaseRange}
 use Rattle.ast_nodes.specs.declared.statement.CaseRange.TheVariants as range
 use Rattle.ff_expressions.specs.declared.item.Item.{Item}
-use Rattle.ff_expressions.specs.declared.item.Item.TheVariants.{Word}
 use Rattle.ff_expressions.specs.declared.item.Mark.TheVariants.{Comma}
 use Rattle.ff_expressions.specs.declared.item.Parsed.{Parsed}
 use Rattle.ff_expressions.specs.declared.item.Part.{Part}

@@ -1,5 +1,5 @@
 -- The form of a statement, by its tokens.
-use Rattle.std.specs.Prelude.{◌≡◌, ℕ, List, nat_lt, Option, Some, None, Result, Ok, Err, if◌then◌else◌}
+use Rattle.std.specs.Prelude.{◌≡◌, ℕ, List, nat_lt, Some, None, Result, Ok, Err, if◌then◌else◌}
 use Rattle.lf_base.specs.declared.fault.SyntaxFault.{SyntaxFault}
 use Rattle.lf_base.specs.declared.fault.SyntaxFault.TheVariants.{At, Memory}
 use Rattle.lf_base.specs.declared.rule.Rule.{Rule}
@@ -25,10 +25,6 @@ judged line tokens (Some read) = Ok (record { line = line; form = read.0; is_dee
 -- the form of the statement that these tokens are, on this line, or the rule that they break
 unfoldable pub form_of : ℕ → List Spelled → Result Formed Rule
 form_of line tokens = judged line tokens (read_of line tokens)
-
--- These tokens are a statement of this form.
-abbrev pub IsStatement : ℕ → List Spelled → Formed → Type 0
-IsStatement line tokens formed = form_of line tokens ≡ Ok formed
 
 -- What was answered is what there is, unless memory ran out.
 abbrev pub StatementGives : ℕ → Result Formed SyntaxFault → Result Formed Rule → Type 0

@@ -1,5 +1,6 @@
 pub mod Actions
 pub mod Answers
+pub mod Cases
 pub mod Constructs
 pub mod Declarations
 pub mod Forms

@@ -1,5 +1,5 @@
 -- Lists of names, and what `use` takes (ISO/IEC 1539-1:2018, 14.2.2).
-use Rattle.std.specs.Prelude.{ℕ, List, [], ◌∷◌, codes, slice_get, Option, Some, None, if◌then◌else◌, ◌&&◌}
+use Rattle.std.specs.Prelude.{ℕ, List, [], ◌∷◌, codes, slice_get, Option, Some, if◌then◌else◌, ◌&&◌}
 use Rattle.ast_nodes.specs.declared.declaration.Rename.{Rename}
 use Rattle.ast_nodes.specs.declared.declaration.UseStmt.{UseStmt}
 use Rattle.ff_expressions.specs.declared.item.Item.{Item}

@@ -15,7 +15,7 @@ use Rattle.ff_expressions.specs.declared.item.Part.{Part}
 use Rattle.ff_expressions.specs.declared.item.Part.TheVariants.{Star, Plain, Keyed}
 use Rattle.ff_expressions.specs.Pieces.{pieces_of}
 use Rattle.ff_forms.specs.Answers.{on, Read, each}
-use Rattle.ff_forms.specs.Shapes.{is, nothing, first_of, only_one, behind_comma, behind_star, group_first, expression_in, output_in, designator_in}
+use Rattle.ff_forms.specs.Shapes.{is, first_of, only_one, behind_comma, behind_star, group_first, expression_in, output_in, designator_in}
 
 -- a space or a tab
 unfoldable pub is_blank : ℕ → Bool

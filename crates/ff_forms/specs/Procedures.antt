@@ -2,13 +2,11 @@
 use Rattle.std.specs.Prelude.{ℕ, Bool, List, [], ◌∷◌, codes, slice_get, Option, Some, None, if◌then◌else◌, ◌&&◌}
 use Rattle.ast_nodes.specs.declared.declaration.TypeSpec.{TypeSpec}
 use Rattle.ast_nodes.specs.declared.declaration.TypeSpec.TheVariants as type
-use Rattle.ff_expressions.specs.declared.item.Bracket.TheVariants.{Round}
 use Rattle.ff_expressions.specs.declared.item.Item.{Item}
-use Rattle.ff_expressions.specs.declared.item.Item.TheVariants.{Word, Group}
 use Rattle.ff_forms.specs.declared.form.Form.{Form}
 use Rattle.ff_forms.specs.declared.form.Form.TheVariants as form
 use Rattle.ff_forms.specs.Answers.{on, Read}
-use Rattle.ff_forms.specs.Shapes.{is, nothing, word_first, behind_word, group_first, only_group, is_group, is_word, spells, one_name}
+use Rattle.ff_forms.specs.Shapes.{is, word_first, behind_word, group_first, only_group, is_word, spells, one_name}
 use Rattle.ff_forms.specs.Names.{dummies_of}
 use Rattle.ff_forms.specs.Types.{integer_type, character_type, derived_type}
 use Rattle.ff_forms.specs.Declarations.{declaration_of}

@@ -1,5 +1,5 @@
 -- What stands in front of items, parts and pieces.
-use Rattle.std.specs.Prelude.{ℕ, Bool, true, false, List, [], ◌∷◌, length, codes, bytes_eq, slice_get, Option, Some, None, if◌then◌else◌, ◌==◌, ◌&&◌}
+use Rattle.std.specs.Prelude.{ℕ, Bool, true, false, List, [], ◌∷◌, bytes_eq, slice_get, Option, Some, None, if◌then◌else◌}
 use Rattle.ast_nodes.specs.declared.expression.Designator.{Designator, out-Designator}
 use Rattle.ast_nodes.specs.declared.expression.Expr.{Expr, out-Expr}
 use Rattle.ast_nodes.specs.declared.expression.Expr.TheOpen.{Expr-F, RefPart-F}

@@ -1,5 +1,5 @@
 -- Types and attributes (ISO/IEC 1539-1:2018, 7.3.2, 7.4.4.2, 8.5).
-use Rattle.std.specs.Prelude.{ℕ, Bool, List, [], ◌∷◌, codes, max, nat_lt, slice_get, Option, Some, None, if◌then◌else◌, ◌==◌, ◌&&◌}
+use Rattle.std.specs.Prelude.{ℕ, List, codes, max, nat_lt, slice_get, Option, Some, None, if◌then◌else◌}
 use Rattle.ast_nodes.specs.declared.declaration.Attribute.{Attribute}
 use Rattle.ast_nodes.specs.declared.declaration.Attribute.TheVariants as attribute
 use Rattle.ast_nodes.specs.declared.declaration.Bound.{Bound}
@@ -12,12 +12,10 @@ use Rattle.ast_nodes.specs.declared.expression.Expr.{Expr, out-Expr}
 use Rattle.ast_nodes.specs.declared.expression.Expr.TheOpen.{Expr-F}
 use Rattle.ast_nodes.specs.declared.expression.RefPart.{RefPart}
 use Rattle.ff_expressions.specs.declared.item.Item.{Item}
-use Rattle.ff_expressions.specs.declared.item.Mark.TheVariants.{Comma}
 use Rattle.ff_expressions.specs.declared.item.Parsed.{Parsed}
 use Rattle.ff_expressions.specs.declared.item.Part.{Part}
 use Rattle.ff_expressions.specs.declared.item.Part.TheVariants.{Star, Plain, Keyed, Section}
 use Rattle.ff_expressions.specs.declared.item.Step.TheVariants.{Absent}
-use Rattle.ff_expressions.specs.Pieces.{pieces_of}
 use Rattle.ff_forms.specs.Answers.{on, Read, each}
 use Rattle.ff_forms.specs.Shapes.{is, nothing, something, only_one, word_first, group_first, only_group, is_group, one_name}
 

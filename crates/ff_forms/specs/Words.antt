@@ -1,11 +1,10 @@
 -- The words of statements that are of the language, but not of this profile.
-use Rattle.std.specs.Prelude.{ℕ, Bool, true, false, List, [], ◌∷◌, codes, slice_get, Option, Some, None, if◌then◌else◌, ◌&&◌, ◌||◌}
+use Rattle.std.specs.Prelude.{ℕ, Bool, false, List, [], ◌∷◌, codes, slice_get, Option, Some, None, if◌then◌else◌, ◌&&◌, ◌||◌}
 use Rattle.lf_base.specs.declared.rule.Rule.{Rule}
 use Rattle.lf_base.specs.declared.rule.Rule.TheVariants.{E201, E202}
 use Rattle.ff_lexer.specs.Statements.{Spelled}
 use Rattle.ff_expressions.specs.declared.item.Item.{Item}
-use Rattle.ff_expressions.specs.declared.item.Item.TheVariants.{Word, Mark}
-use Rattle.ff_expressions.specs.declared.item.Mark.TheVariants.{Colon}
+use Rattle.ff_expressions.specs.declared.item.Item.TheVariants.{Word}
 use Rattle.ff_expressions.specs.Items.{items_of}
 use Rattle.ff_forms.specs.Shapes.{is, is_word, is_colon, spells}
 

@@ -1,17 +1,9 @@
--- A list of statements is one file, and its first fault does not depend on what stands behind it.
+-- The first fault of a list of statements does not depend on what stands behind it.
 use Rattle.std.proofs.Common.{◌≡◌, ℕ, List, [], ◌∷◌, ◌++◌, Ok, Err, refl, ap}
 use Rattle.lf_base.specs.declared.rule.Rule.{Rule}
-use Rattle.ast_nodes.specs.declared.file.File.{File}
-use Rattle.ff_lexer.specs.Statements.{Spelled}
 use Rattle.ff_forms.specs.declared.form.Formed.{Formed}
 use Rattle.ff_parser.specs.declared.nest.Nest.{Nest}
-use Rattle.ff_parser.specs.Files.{Judged, and_then, step, rest_of, reached, file_in, IsFile}
-
-same_value : (a b : File) (r : Judged File) → r ≡ Ok a → r ≡ Ok b → a ≡ b
-same_value a b r p q = cc
-
-pub one : (statements : List (ℕ × List Spelled)) (a b : File) → IsFile statements a → IsFile statements b → a ≡ b
-one statements a b p q = same_value a b (file_in statements) p q
+use Rattle.ff_parser.specs.Files.{Judged, and_then, step, rest_of, reached}
 
 same_fault : (a b : ℕ × Rule) (r : Judged Nest) → r ≡ Err a → r ≡ Err b → a ≡ b
 same_fault a b r p q = cc

@@ -1,12 +1,10 @@
 -- Where a statement may stand (ISO/IEC 1539-1:2018, 5.1, 11.1, 14 and 15.6).
 use Rattle.std.specs.Prelude.{Bool, true, false, not, ◌&&◌, ◌||◌, ◌==◌, List, [], ◌∷◌, Some, None}
-use Rattle.ast_nodes.specs.declared.statement.Statement.{Statement, Statement-F, fold-Statement}
-use Rattle.ast_nodes.specs.declared.statement.Arm.{Arm-F}
-use Rattle.ast_nodes.specs.declared.statement.Case.{Case-F}
 use Rattle.ff_forms.specs.declared.form.Form.{Form}
 use Rattle.ff_forms.specs.declared.form.Form.TheVariants as form
 use Rattle.ff_forms.specs.declared.form.End.{End}
 use Rattle.ff_forms.specs.declared.form.End.TheVariants as end
+use Rattle.ff_parser.specs.Pieces.{is_return}
 use Rattle.ff_parser.specs.declared.nest.Stage.{Stage}
 use Rattle.ff_parser.specs.declared.nest.Stage.TheVariants as stage
 use Rattle.ff_parser.specs.declared.nest.Kind.{Kind}
@@ -58,38 +56,6 @@ closes (kind.Unit name of_module procs) end.Module = of_module
 closes (kind.Procedure header host) end.Subroutine = not (header.is_function == 1)
 closes (kind.Procedure header host) end.Function = header.is_function == 1
 closes _ _ = false
-
--- a statement is `return`, and it is that or an `if` with `return` for its action
-abbrev Returns : Type 0
-Returns = Bool × Bool
-
-abbrev alone : List Returns → Bool
-alone (r ∷ []) = r.0
-alone _ = false
-
-abbrev action_of : List Bool → Bool
-action_of (r ∷ []) = r
-action_of _ = false
-
-abbrev pub returning : Statement-F Returns Bool (Unit {0}) → Returns
-returning (Statement-F.Return line) = (true, true)
-returning (Statement-F.If line construct arms) = (false, action_of arms)
-returning _ = (false, false)
-
-abbrev pub arm_returning : Arm-F Returns Bool (Unit {0}) → Bool
-arm_returning arm = alone arm.body
-
-abbrev pub case_returning : Case-F Returns Bool (Unit {0}) → Unit {0}
-case_returning _ = tt
-
-abbrev pub returns_of : Statement → Returns
-returns_of = fold-Statement Returns Bool (Unit {0}) returning arm_returning case_returning
-
-abbrev pub returns_alone : Statement → Bool
-returns_alone s = (returns_of s).0
-
-abbrev pub is_return : Statement → Bool
-is_return s = (returns_of s).1
 
 abbrev pub in_scope : Scope → Form → Bool
 in_scope scope (form.Use used) = takes_uses scope.stage

@@ -1,5 +1,6 @@
 -- The file that statements are (ISO/IEC 1539-1:2018, 5.1), or their first fault.
-use Rattle.std.specs.Prelude.{◌≡◌, ℕ, Bool, ◌&&◌, ◌||◌, ◌==◌, List, [], ◌∷◌, map, Option, Some, None, Result, Ok, Err, if◌then◌else◌}
+use Rattle.std.specs.Prelude.{◌≡◌, ℕ, Bool, ◌&&◌, ◌||◌, ◌==◌, false, List, [], ◌∷◌, map, Option, Some, None, Result, Ok, Err, if◌then◌else◌}
+use Rattle.std.specs.List.{AllByRecursion as Each}
 use Rattle.lf_base.specs.declared.rule.Rule.{Rule}
 use Rattle.lf_base.specs.declared.rule.Rule.TheVariants.{E203, E204, E205, E206}
 use Rattle.ast_nodes.specs.declared.file.File.{File}
@@ -7,7 +8,7 @@ use Rattle.ff_forms.specs.declared.form.Formed.{Formed}
 use Rattle.lf_base.specs.declared.fault.SyntaxFault.{SyntaxFault}
 use Rattle.lf_base.specs.declared.fault.SyntaxFault.TheVariants.{At, Memory}
 use Rattle.ff_lexer.specs.Statements.{Spelled}
-use Rattle.ff_lexer.specs.declared.token.Stmt.{Stmt}
+use Rattle.ff_forms.specs.Cases.{IsStatement}
 use Rattle.ff_forms.specs.Forms.{form_of}
 use Rattle.ff_parser.specs.declared.nest.Definition.{Definition}
 use Rattle.ff_parser.specs.declared.nest.Definition.TheVariants as definition
@@ -16,6 +17,7 @@ use Rattle.ff_parser.specs.declared.nest.Nest.TheVariants as nest
 use Rattle.ff_parser.specs.Allowed.{is_allowed}
 use Rattle.ff_parser.specs.Names.{is_named, begins_construct, is_full}
 use Rattle.ff_parser.specs.Taken.{taken}
+use Rattle.ff_parser.specs.Grammar.{Stated, IsNested}
 
 -- the value, or the line and the rule of a fault
 abbrev pub Judged : Type 0 → Type 0
@@ -96,9 +98,29 @@ file_behind n statements = rest_of n (map form_in statements)
 abbrev pub file_in : List (ℕ × List Spelled) → Judged File
 file_in statements = file_of (map form_in statements)
 
--- The statements are this file.
+-- Each statement is of the form beside it, by the cases of its grammar.
+abbrev pub AreOfForms : List (ℕ × List Spelled) → List Formed → Type 0
+AreOfForms [] [] = Unit {0}
+AreOfForms [] (f ∷ fs) = ⊥
+AreOfForms (s ∷ ss) [] = ⊥
+AreOfForms (s ∷ ss) (f ∷ fs) = IsStatement s.0 s.1 f × AreOfForms ss fs
+
+-- no expression of it is too deep
+abbrev pub IsShallow : Formed → Type 0
+IsShallow f = (f.is_deep == 1) ≡ false
+
+abbrev pub stated : Formed → Stated
+stated f = (f.line, f.form)
+
+-- The statements are this file: each has a form, no expression is too deep, and by the grammar the forms are what the file is written as.
 abbrev pub IsFile : List (ℕ × List Spelled) → File → Type 0
-IsFile statements file = file_in statements ≡ Ok file
+IsFile statements file = (forms : List Formed) × AreOfForms statements forms × Each IsShallow forms × IsNested (map stated forms) file
+
+-- What was answered is the file by the grammar, and where a fault was there is none, unless memory ran out.
+abbrev pub Parses : List (ℕ × List Spelled) → Result File SyntaxFault → Type 0
+Parses statements (Ok file) = IsFile statements file
+Parses statements (Err Memory) = Unit {0}
+Parses statements (Err (At line rule)) = (file : File) → IsFile statements file → ⊥
 
 -- What was answered is what there is, unless memory ran out.
 abbrev pub Answers : {S T : Type 0} → (S → T) → Result S SyntaxFault → Judged T → Type 0

@@ -1,8 +1,8 @@
 -- The names behind ends and parts, which are those of what is open (ISO/IEC 1539-1:2018, 11.1.7.4, 11.1.8, 11.1.9, 14.1, 14.2, 15.6.2).
 use Rattle.std.specs.Prelude.{ℕ, Bool, true, false, List, Option, Some, None, nat_le, length}
-use Rattle.std.specs.Str.{bytes_eq}
 use Rattle.ff_forms.specs.declared.form.Form.{Form}
 use Rattle.ff_forms.specs.declared.form.Form.TheVariants as form
+use Rattle.ff_parser.specs.Pieces.{agrees}
 use Rattle.ff_parser.specs.declared.nest.Kind.{Kind}
 use Rattle.ff_parser.specs.declared.nest.Kind.TheVariants as kind
 use Rattle.ff_parser.specs.declared.nest.Definition.{Definition}
@@ -32,12 +32,6 @@ own_name (nest.Outside units) = None
 own_name (nest.Scope units scope) = Some (name_of scope.kind)
 own_name (nest.Definition units scope definition) = Some (name_of_definition definition)
 own_name (nest.Construct units scope level around) = level.construct
-
--- no name is said, or that of what is open
-abbrev pub agrees : Option (List ℕ) → Option (List ℕ) → Bool
-agrees None own = true
-agrees (Some name) None = false
-agrees (Some name) (Some own) = bytes_eq name own
 
 -- a statement names nothing else than what it stands in
 abbrev pub is_named : Nest → Form → Bool

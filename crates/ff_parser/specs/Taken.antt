@@ -1,5 +1,5 @@
 -- What is open behind a statement that may stand where it does.
-use Rattle.std.specs.Prelude.{◌≡◌, ℕ, Bool, true, false, ◌||◌, ◌==◌, List, [], ◌∷◌, ◌++◌, Option, Some, None, Result, Ok, Err}
+use Rattle.std.specs.Prelude.{◌≡◌, ℕ, true, false, ◌||◌, ◌==◌, List, [], ◌∷◌, ◌++◌, Option, Some, None, Result, Ok, Err}
 use Rattle.lf_base.specs.declared.fault.Memory.{Memory}
 use Rattle.ast_nodes.specs.declared.declaration.Vars.{Vars}
 use Rattle.ast_nodes.specs.declared.declaration.Decl.{Decl}
@@ -7,13 +7,12 @@ use Rattle.ast_nodes.specs.declared.declaration.Decl.TheVariants as decl
 use Rattle.ast_nodes.specs.declared.expression.Expr.{Expr}
 use Rattle.ast_nodes.specs.declared.file.Procedure.{Procedure}
 use Rattle.ast_nodes.specs.declared.file.Unit.{Unit as ProgramUnit}
-use Rattle.ast_nodes.specs.declared.file.Unit.TheVariants as program_unit
 use Rattle.ast_nodes.specs.declared.statement.Statement.{Statement}
 use Rattle.ast_nodes.specs.declared.statement.Statement.TheVariants as statement
-use Rattle.ast_nodes.specs.declared.statement.Arm.{Arm}
 use Rattle.ast_nodes.specs.declared.statement.Case.{Case}
 use Rattle.ff_forms.specs.declared.form.Form.{Form}
 use Rattle.ff_forms.specs.declared.form.Form.TheVariants as form
+use Rattle.ff_parser.specs.Pieces.{unit_of, procedure_of, arm}
 use Rattle.ff_parser.specs.declared.nest.Stage.{Stage}
 use Rattle.ff_parser.specs.declared.nest.Stage.TheVariants as stage
 use Rattle.ff_parser.specs.declared.nest.Header.{Header}
@@ -68,22 +67,6 @@ resumed host procedure = record {
   decls = host.decls;
   stmts = host.stmts;
 }
-
-abbrev pub procedure_of : ℕ → Header → List Decl → List Statement → Procedure
-procedure_of line header decls stmts = record {
-  line = line;
-  name = header.name;
-  is_function = header.is_function;
-  type_spec = header.type_spec;
-  dummies = header.dummies;
-  result = header.result;
-  decls = decls;
-  stmts = stmts;
-}
-
-abbrev pub unit_of : ℕ → List ℕ → Bool → List Decl → List Statement → List Procedure → ProgramUnit
-unit_of line name false decls stmts procs = program_unit.Program line name decls stmts procs
-unit_of line name true decls stmts procs = program_unit.Module line name decls procs
 
 -- behind the end of a unit or procedure
 abbrev pub closed_by : List ProgramUnit → Scope → Kind → Nest
@@ -146,9 +129,6 @@ from_definition units scope d (form.Variables vars) = nest.Definition units scop
 from_definition units scope d (form.Specifics names) = nest.Definition units scope (with_specifics d names)
 from_definition units scope d (form.End end given) = declared units scope stage.Declarations (decl_of d)
 from_definition units scope d _ = nest.Definition units scope d
-
-abbrev pub arm : ℕ → Option Expr → List Statement → Arm
-arm line condition stmts = record { line = line; condition = condition; body = stmts }
 
 -- the cases with the open one
 abbrev pub with_open : List Case → Option Label → List Statement → List Case

@@ -1,6 +1,7 @@
 //! Where a statement may stand.
 ghost use Rattle.std.specs.Prelude.{◌≡◌};
-ghost use Rattle.ff_parser.specs.Allowed.{takes_uses, takes_declarations, takes_statements, takes_procedures, is_procedure, is_module, closes, in_scope, is_return, returns_alone, has_items, in_definition, has_block, takes_arm, takes_case, closes_construct, in_construct, begins_unit, is_allowed};
+ghost use Rattle.ff_parser.specs.Pieces.{is_return, returns_alone};
+ghost use Rattle.ff_parser.specs.Allowed.{takes_uses, takes_declarations, takes_statements, takes_procedures, is_procedure, is_module, closes, in_scope, has_items, in_definition, has_block, takes_arm, takes_case, closes_construct, in_construct, begins_unit, is_allowed};
 
 use crate::nest::{Definition, Kind, Level, Nest, Parts, Scope, Stage};
 use ast_nodes::Statement;

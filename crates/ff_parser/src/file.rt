@@ -3,7 +3,7 @@ ghost use Rattle.std.specs.Prelude.{◌≡◌, ◌∷◌, List, ℕ, Ok, IfOk};
 ghost use Rattle.ff_lexer.specs.Statements.{Spelled};
 ghost use Rattle.ff_lexer.specs.Spans.{spelled_statement, spelled_statements, view};
 ghost use Rattle.ff_parser.specs.Taken.{taken};
-ghost use Rattle.ff_parser.specs.Files.{is_too_deep, broken, step, line_of_definition, line_of_open, closed_file, ended, file_behind, file_in, Answers, Leads};
+ghost use Rattle.ff_parser.specs.Files.{is_too_deep, broken, step, line_of_definition, line_of_open, closed_file, ended, file_behind, file_in, Answers, Leads, Parses};
 
 use crate::allowed::is_allowed;
 use crate::inner::{from_construct, from_definition};
@@ -140,6 +140,19 @@ fn ended(nest: Nest) -> Result<File, SyntaxFault>
     closed_file(nest, line)
 }
 
+// The file, or the first fault.
+fn file_of(alloc: Global, stmts: &[Stmt], source: &[u8]) -> Result<File, SyntaxFault>
+    ensures { Answers (λ file. file) result (file_in (spelled_statements source.now stmts.now)) }
+{
+    let mut nest = Nest::Outside {
+        units: Items::new(alloc),
+    };
+    for stmt in stmts {
+        nest = next(alloc, nest, source, stmt)?;
+    }
+    ended(nest)
+}
+
 /// The file that the statements of a source are (ISO/IEC 1539-1:2018, 5.1), or the first statement that breaks a rule, with the least
 /// of the rules that it breaks:
 ///
@@ -150,14 +163,12 @@ fn ended(nest: Nest) -> Result<File, SyntaxFault>
 ///
 /// Where no statement breaks one, and a unit, a procedure, a definition or a construct is open at the end, it is E204 with the line of
 /// the first statement of the innermost.
+///
+/// A file is answered exactly where the grammar of units, procedures, definitions, constructs and blocks relates one to the statements;
+/// at most one is.
 pub fn parse(alloc: Global, stmts: &[Stmt], source: &[u8]) -> Result<File, SyntaxFault>
-    ensures { Answers (λ file. file) result (file_in (spelled_statements source.now stmts.now)) }
+    ensures exact { Answers (λ file. file) result (file_in (spelled_statements source.now stmts.now)) }
+    ensures grammar { Parses (spelled_statements source.now stmts.now) result }
 {
-    let mut nest = Nest::Outside {
-        units: Items::new(alloc),
-    };
-    for stmt in stmts {
-        nest = next(alloc, nest, source, stmt)?;
-    }
-    ended(nest)
+    file_of(alloc, stmts, source)
 }

@@ -1,6 +1,7 @@
 //! What is open behind a statement in a definition or a construct.
 ghost use Rattle.std.specs.Prelude.{◌≡◌, [], ◌∷◌, ◌++◌, Some, IfOk};
-ghost use Rattle.ff_parser.specs.Taken.{Follows, level, decl_of, with_component, with_specifics, from_definition, arm, with_open, construct_of, statement_of, within, closed_construct, next_arm, next_case, next_block, opened_in_level, from_construct};
+ghost use Rattle.ff_parser.specs.Pieces.{arm};
+ghost use Rattle.ff_parser.specs.Taken.{Follows, level, decl_of, with_component, with_specifics, from_definition, with_open, construct_of, statement_of, within, closed_construct, next_arm, next_case, next_block, opened_in_level, from_construct};
 
 use crate::nest::{Definition, Label, Level, Nest, Parts, Scope, Stage};
 use crate::stack::Stack;

@@ -1,7 +1,8 @@
 //! The names that ends and parts say, and how deep constructs are nested.
 ghost use Rattle.std.specs.Prelude.{◌≡◌};
 ghost use Rattle.std.specs.Option.{option_copied};
-ghost use Rattle.ff_parser.specs.Names.{name_of, name_of_definition, said, own_name, agrees, is_named, begins_construct, is_full};
+ghost use Rattle.ff_parser.specs.Pieces.{agrees};
+ghost use Rattle.ff_parser.specs.Names.{name_of, name_of_definition, said, own_name, is_named, begins_construct, is_full};
 
 use crate::nest::{Definition, Kind, Nest};
 use ff_forms::Form;

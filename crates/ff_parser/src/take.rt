@@ -1,6 +1,7 @@
 //! What is open behind a statement.
 ghost use Rattle.std.specs.Prelude.{◌≡◌, [], ◌∷◌, ◌++◌, Some, None, false, IfOk, OnOk};
-ghost use Rattle.ff_parser.specs.Taken.{begun, from_outside, declared, executed, host_of, entered, resumed, unit_of, procedure_of, closed, level, level_of, opened_in_scope, begun_in_scope, from_scope};
+ghost use Rattle.ff_parser.specs.Pieces.{unit_of, procedure_of};
+ghost use Rattle.ff_parser.specs.Taken.{begun, from_outside, declared, executed, host_of, entered, resumed, closed, level, level_of, opened_in_scope, begun_in_scope, from_scope};
 
 use crate::nest::{Definition, Header, Host, Kind, Level, Nest, Parts, Scope, Stage};
 use crate::stack::Stack;

@@ -1,4 +1,4 @@
-use Rattle.ff_parser.proofs.Laws.{one}
+use Rattle.ff_parser.proofs.Written.{one}
 use Rattle.ff_parser.proofs.law.one_file.Goals as goal
 
 pub returns : goal.returns

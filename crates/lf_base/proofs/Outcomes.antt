@@ -1,6 +1,6 @@
 -- What begins what.
 use Rattle.std.proofs.Common.{ℕ, List, [], ◌++◌, Option, Some, None, refl, sym, ap, subst, ◌∙◌, append_assoc, append-nil}
-use Rattle.lf_base.specs.Outcome.{Place, Written, Outcome, Ended, Cut, Wrong, IsFront, IsBegun, Extends, KeepsPlace}
+use Rattle.lf_base.specs.Outcome.{Location, Written, Outcome, Ended, Cut, Wrong, Fault, Stuck, Undefined, Away, IsFront, IsBegun, Began, Extends, KeepsLocation}
 
 pub front_same : (a : List ℕ) → IsFront a a
 front_same a = ([], sym (append-nil a))
@@ -17,11 +17,16 @@ begun_same a = record { out = front_same a.out; err = front_same a.err }
 pub begun_more : (a b c : Written) → IsBegun a b → IsBegun b c → IsBegun a c
 begun_more a b c p q = record { out = front_more a.out b.out c.out p.out q.out; err = front_more a.err b.err c.err p.err q.err }
 
-pub extends_more : (W : Type 0) (a b : Written) (o : Outcome) → IsBegun a b → Extends W b o → Extends W a o
-extends_more W a b (Ended later status place) p q = begun_more a b later p q
-extends_more W a b (Cut later) p q = begun_more a b later p q
-extends_more W a b (Wrong fault) p q = q
+pub began_more : (a b : Written) (fault : Fault) → IsBegun a b → Began b fault → Began a fault
+began_more a b Stuck p q = tt
+began_more a b Undefined p q = tt
+began_more a b (Away later) p q = begun_more a b later p q
 
-pub keeps_more : (p q r : Option Place) → KeepsPlace p q → KeepsPlace q r → KeepsPlace p r
+pub extends_more : (a b : Written) (o : Outcome) → IsBegun a b → Extends b o → Extends a o
+extends_more a b (Ended later status location) p q = begun_more a b later p q
+extends_more a b (Cut later) p q = begun_more a b later p q
+extends_more a b (Wrong fault) p q = began_more a b fault p q
+
+pub keeps_more : (p q r : Option Location) → KeepsLocation p q → KeepsLocation q r → KeepsLocation p r
 keeps_more p q None h k = tt
-keeps_more p q (Some r) h k = subst (λ x. KeepsPlace p x) k h
+keeps_more p q (Some r) h k = subst (λ x. KeepsLocation p x) k h

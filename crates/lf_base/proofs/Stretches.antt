@@ -1,94 +1,97 @@
 -- The order of outcomes goes through each combinator.
 use Rattle.std.proofs.Common.{◌≡◌, ℕ, zero, suc, ◌≤◌, Bool, true, false, List, Option, Some, None, refl, sym, ap, subst, arith, [], ◌∷◌}
 use Rattle.std.specs.List.{AllByRecursion}
-use Rattle.lf_base.specs.Outcome.{Place, Written, Fault, Ended, Cut, Wrong, IsBegun}
-use Rattle.lf_base.specs.Acts.{Stretch, Going, Stopped, Act, then_do, bind, give, look, change, print, complain, stop, trap, cut, wrong, given, next_or, in_order, within, turn, iterate}
+use Rattle.lf_base.specs.Outcome.{Location, Written, Fault, Ended, Cut, Wrong, IsBegun, Began, Away, Owed, Any}
+use Rattle.lf_base.specs.Acts.{Stretch, Going, Stopped, Act, then_do, bind, give, look, change, print, complain, stop, trap, cut, wrong, away, given, next_or, in_order, within, turn, iterate}
+use Rattle.lf_base.specs.declared.trap.Trap.{Trap}
 use Rattle.lf_base.specs.Order.{ExtendsIn, Grows, Link, Below, BelowFrom, Same}
 use Rattle.lf_base.proofs.Outcomes.{front_same, front_append, begun_same, begun_more, extends_more}
 
-module _ {S A : Type 0} (W : Type 0) where
-  pub extends_in_more : (a b : Written) (x : Stretch S A) → IsBegun a b → ExtendsIn W b x → ExtendsIn W a x
+module _ {S A : Type 0} where
+  pub extends_in_more : (a b : Written) (x : Stretch S A) → IsBegun a b → ExtendsIn b x → ExtendsIn a x
   extends_in_more a b (Going value state later) p q = begun_more a b later p q
-  extends_in_more a b (Stopped outcome) p q = extends_more W a b outcome p q
+  extends_in_more a b (Stopped outcome) p q = extends_more a b outcome p q
 
 -- an act behind a stretch
-pub extends_then : {S A B : Type 0} (W : Type 0) (sofar : Written) (x : Stretch S A) (go : A → Act S B) → ((a : A) → Grows W (go a)) → ExtendsIn W sofar x → ExtendsIn W sofar (then_do x go)
-extends_then W sofar (Going value state later) go more h = extends_in_more W sofar later (go value state later) h (more value state later)
-extends_then W sofar (Stopped outcome) go more h = h
+pub extends_then : {S A B : Type 0} (sofar : Written) (x : Stretch S A) (go : A → Act S B) → ((a : A) → Grows (go a)) → ExtendsIn sofar x → ExtendsIn sofar (then_do x go)
+extends_then sofar (Going value state later) go more h = extends_in_more sofar later (go value state later) h (more value state later)
+extends_then sofar (Stopped outcome) go more h = h
 
-pub grows_bind : {S A B : Type 0} (W : Type 0) (act : Act S A) (go : A → Act S B) → Grows W act → ((a : A) → Grows W (go a)) → Grows W (bind act go)
-grows_bind W act go h more state sofar = extends_then W sofar (act state sofar) go more (h state sofar)
+pub grows_bind : {S A B : Type 0} (act : Act S A) (go : A → Act S B) → Grows act → ((a : A) → Grows (go a)) → Grows (bind act go)
+grows_bind act go h more state sofar = extends_then sofar (act state sofar) go more (h state sofar)
 
-pub grows_give : {S A : Type 0} (W : Type 0) (value : A) → Grows {S = S} W (give value)
-grows_give W value state sofar = begun_same sofar
+pub grows_give : {S A : Type 0} (value : A) → Grows {S = S} (give value)
+grows_give value state sofar = begun_same sofar
 
-pub grows_look : {S A : Type 0} (W : Type 0) (f : S → A) → Grows W (look f)
-grows_look W f state sofar = begun_same sofar
+pub grows_look : {S A : Type 0} (f : S → A) → Grows (look f)
+grows_look f state sofar = begun_same sofar
 
-pub grows_change : {S : Type 0} (W : Type 0) (f : S → S) → Grows W (change f)
-grows_change W f state sofar = begun_same sofar
+pub grows_change : {S : Type 0} (f : S → S) → Grows (change f)
+grows_change f state sofar = begun_same sofar
 
-pub grows_print : {S : Type 0} (W : Type 0) (bytes : List ℕ) → Grows {S = S} W (print bytes)
-grows_print W bytes state sofar = record { out = front_append sofar.out bytes; err = front_same sofar.err }
+pub grows_print : {S : Type 0} (bytes : List ℕ) → Grows {S = S} (print bytes)
+grows_print bytes state sofar = record { out = front_append sofar.out bytes; err = front_same sofar.err }
 
-pub grows_complain : {S : Type 0} (W : Type 0) (bytes : List ℕ) → Grows {S = S} W (complain bytes)
-grows_complain W bytes state sofar = record { out = front_same sofar.out; err = front_append sofar.err bytes }
+pub grows_complain : {S : Type 0} (bytes : List ℕ) → Grows {S = S} (complain bytes)
+grows_complain bytes state sofar = record { out = front_same sofar.out; err = front_append sofar.err bytes }
 
-pub grows_stop : (S A : Type 0) (W : Type 0) (status : ℕ) → Grows {S = S} {A = A} W (stop status)
-grows_stop S A W status state sofar = begun_same sofar
+pub grows_stop : (S A : Type 0) (status : ℕ) → Grows {S = S} {A = A} (stop status)
+grows_stop S A status state sofar = begun_same sofar
 
-pub grows_trap : (S A : Type 0) (W : Type 0) (number : ℕ) (text : List ℕ) (place : Option Place) → Grows {S = S} {A = A} W (trap number text place)
-grows_trap S A W number text place state sofar = record { out = front_same sofar.out; err = front_append sofar.err text }
+pub grows_trap : (S A : Type 0) (cause : Trap) (text : List ℕ) (location : Option Location) → Grows {S = S} {A = A} (trap cause text location)
+grows_trap S A cause text location state sofar = record { out = front_same sofar.out; err = front_append sofar.err text }
 
-pub grows_cut : (S A : Type 0) (W : Type 0) → Grows {S = S} {A = A} W cut
-grows_cut S A W state sofar = begun_same sofar
+pub grows_cut : (S A : Type 0) → Grows {S = S} {A = A} cut
+grows_cut S A state sofar = begun_same sofar
 
--- W is what is owed where there is no rule
-pub grows_wrong : (S A : Type 0) (W : Type 0) (owed : W) (fault : Fault) → Grows {S = S} {A = A} W (wrong fault)
-grows_wrong S A W owed fault state sofar = owed
+pub grows_wrong : (S A : Type 0) (fault : Fault) → ((sofar : Written) → Began sofar fault) → Grows {S = S} {A = A} (wrong fault)
+grows_wrong S A fault began state sofar = began sofar
 
-pub grows_given : (S : Type 0) {A : Type 0} (W : Type 0) (owed : W) (fault : Fault) (o : Option A) → Grows {S = S} W (given fault o)
-grows_given S {A} W owed fault None = grows_wrong S A W owed fault
-grows_given S W owed fault (Some value) = grows_give W value
+pub grows_away : (S A : Type 0) → Grows {S = S} {A = A} away
+grows_away S A state sofar = begun_same sofar
 
-grows_next : {S B : Type 0} (W : Type 0) (more : Act S (Option B)) → Grows W more → (o : Option B) → Grows W (next_or more o)
-grows_next W more h None = h
-grows_next {S} {B} W more h (Some left) = grows_give {A = Option B} W (Some left)
+pub grows_given : (S : Type 0) {A : Type 0} (fault : Fault) → ((sofar : Written) → Began sofar fault) → (o : Option A) → Grows {S = S} (given fault o)
+grows_given S {A} fault began None = grows_wrong S A fault began
+grows_given S fault began (Some value) = grows_give value
 
-pub grows_order : {S B : Type 0} (W : Type 0) (acts : List (Act S (Option B))) → AllByRecursion (Grows W) acts → Grows W (in_order acts)
-grows_order {S} {B} W [] h = grows_give {A = Option B} W None
-grows_order W (act ∷ acts) h = grows_bind W act (next_or (in_order acts)) h.0 (grows_next W (in_order acts) (grows_order W acts h.1))
+pub grows_next : {S B : Type 0} (more : Act S (Option B)) → Grows more → (o : Option B) → Grows (next_or more o)
+grows_next more h None = h
+grows_next {S} {B} more h (Some left) = grows_give {A = Option B} (Some left)
 
-pub grows_within : {S A : Type 0} (W : Type 0) (enter : S → S) (leave : S → S → S) (act : Act S A) → Grows W act → Grows W (within enter leave act)
-grows_within W enter leave act h state sofar = extends_then W sofar (act (enter state) sofar) (λ value inner later. Going value (leave state inner) later) (λ a s w. begun_same w) (h (enter state) sofar)
+pub grows_order : {S B : Type 0} (acts : List (Act S (Option B))) → AllByRecursion (Grows) acts → Grows (in_order acts)
+grows_order {S} {B} [] h = grows_give {A = Option B} None
+grows_order (act ∷ acts) h = grows_bind act (next_or (in_order acts)) h.0 (grows_next (in_order acts) (grows_order acts h.1))
 
-grows_turn : {S B : Type 0} (W : Type 0) (body more : Act S (Option B)) → Grows W body → Grows W more → (t : Bool) → Grows W (turn body more t)
-grows_turn W body more h k true = grows_bind W body (next_or more) h (grows_next W more k)
-grows_turn {S} {B} W body more h k false = grows_give {A = Option B} W None
+pub grows_within : {S A : Type 0} (enter : S → S) (leave : S → S → S) (act : Act S A) → Grows act → Grows (within enter leave act)
+grows_within enter leave act h state sofar = extends_then sofar (act (enter state) sofar) (λ value inner later. Going value (leave state inner) later) (λ a s w. begun_same w) (h (enter state) sofar)
 
-pub grows_iterate : {S B : Type 0} (W : Type 0) (n : ℕ) (test : Act S Bool) (body : Act S (Option B)) → Grows W test → Grows W body → Grows W (iterate n test body)
-grows_iterate {S} {B} W zero test body t b = grows_bind W test (turn cut cut) t (grows_turn W cut cut (grows_cut S (Option B) W) (grows_cut S (Option B) W))
-grows_iterate W (suc n) test body t b = grows_bind W test (turn body (iterate n test body)) t (grows_turn W body (iterate n test body) b (grows_iterate W n test body t b))
+pub grows_turn : {S B : Type 0} (body more : Act S (Option B)) → Grows body → Grows more → (t : Bool) → Grows (turn body more t)
+grows_turn body more h k true = grows_bind body (next_or more) h (grows_next more k)
+grows_turn {S} {B} body more h k false = grows_give {A = Option B} None
 
-module _ {S S' : Type 0} (W : Type 0) (P : Option Place → Option Place → Type 0) where
-  pub below_then : {A A' B B' : Type 0} (Q : Link S A S' A') (R : Link S B S' B') (x : Stretch S A) (y : Stretch S' A') (go : A → Act S B) (go' : A' → Act S' B') → Below W P Q x y → ((a : A) (s : S) (a' : A') (s' : S') (sofar : Written) → Q a s a' s' → Below W P R (go a s sofar) (go' a' s' sofar)) → ((a' : A') → Grows W (go' a')) → Below W P R (then_do x go) (then_do y go')
+pub grows_iterate : {S B : Type 0} (n : ℕ) (test : Act S Bool) (body : Act S (Option B)) → Grows test → Grows body → Grows (iterate n test body)
+grows_iterate {S} {B} zero test body t b = grows_bind test (turn cut cut) t (grows_turn cut cut (grows_cut S (Option B)) (grows_cut S (Option B)))
+grows_iterate (suc n) test body t b = grows_bind test (turn body (iterate n test body)) t (grows_turn body (iterate n test body) b (grows_iterate n test body t b))
+
+module _ {S S' : Type 0} (W : Owed) (P : Option Location → Option Location → Type 0) where
+  pub below_then : {A A' B B' : Type 0} (Q : Link S A S' A') (R : Link S B S' B') (x : Stretch S A) (y : Stretch S' A') (go : A → Act S B) (go' : A' → Act S' B') → Below W P Q x y → ((a : A) (s : S) (a' : A') (s' : S') (sofar : Written) → Q a s a' s' → Below W P R (go a s sofar) (go' a' s' sofar)) → ((a' : A') → Grows (go' a')) → Below W P R (then_do x go) (then_do y go')
   below_then Q R (Going value state sofar) y go go' h k more = subst (λ z. Below W P R (go value state sofar) (then_do z go')) (sym h.3) (k value state h.0 h.1 sofar h.2)
-  below_then Q R (Stopped (Ended sofar status place)) y go go' h k more = (h.0, h.1, ap (λ z. then_do z go') h.2)
-  below_then Q R (Stopped (Cut sofar)) y go go' h k more = extends_then W sofar y go' more h
+  below_then Q R (Stopped (Ended sofar status location)) y go go' h k more = (h.0, h.1, ap (λ z. then_do z go') h.2)
+  below_then Q R (Stopped (Cut sofar)) y go go' h k more = extends_then sofar y go' more h
   below_then Q R (Stopped (Wrong fault)) y go go' h k more = (h.0, ap (λ z. then_do z go') h.1)
 
-  pub below_bind : {A A' B B' : Type 0} (Q : S → S' → Type 0) (R : Link S A S' A') (T : Link S B S' B') (act : Act S A) (act' : Act S' A') (go : A → Act S B) (go' : A' → Act S' B') → BelowFrom W P Q R act act' → ((a : A) (a' : A') → BelowFrom W P (λ s s'. R a s a' s') T (go a) (go' a')) → ((a' : A') → Grows W (go' a')) → BelowFrom W P Q T (bind act go) (bind act' go')
+  pub below_bind : {A A' B B' : Type 0} (Q : S → S' → Type 0) (R : Link S A S' A') (T : Link S B S' B') (act : Act S A) (act' : Act S' A') (go : A → Act S B) (go' : A' → Act S' B') → BelowFrom W P Q R act act' → ((a : A) (a' : A') → BelowFrom W P (λ s s'. R a s a' s') T (go a) (go' a')) → ((a' : A') → Grows (go' a')) → BelowFrom W P Q T (bind act go) (bind act' go')
   below_bind Q R T act act' go go' h k more state state' sofar r = below_then R T (act state sofar) (act' state' sofar) go go' (h state state' sofar r) (λ a s a' s' w q. k a a' s s' w q) more
 
   pub below_give : {A A' : Type 0} (Q : S → S' → Type 0) (R : Link S A S' A') (a : A) (a' : A') → ((s : S) (s' : S') → Q s s' → R a s a' s') → BelowFrom W P Q R (give a) (give a')
   below_give Q R a a' h state state' sofar r = (a', state', h state state' r, refl)
 
   -- A cut is below whatever writes more.
-  pub below_cut : {A A' : Type 0} (Q : S → S' → Type 0) (R : Link S A S' A') (act' : Act S' A') → Grows W act' → BelowFrom W P Q R cut act'
+  pub below_cut : {A A' : Type 0} (Q : S → S' → Type 0) (R : Link S A S' A') (act' : Act S' A') → Grows act' → BelowFrom W P Q R cut act'
   below_cut Q R act' more state state' sofar r = more state' sofar
 
 -- a loop, where the second may make more turns
-module _ {S S' B B' : Type 0} (W : Type 0) (P : Option Place → Option Place → Type 0) (Q : S → S' → Type 0) (L : Link S B S' B') where
+module _ {S S' B B' : Type 0} (W : Owed) (P : Option Location → Option Location → Type 0) (Q : S → S' → Type 0) (L : Link S B S' B') where
   -- both go on, or both are left with related values
   abbrev pub Left : Link S (Option B) S' (Option B')
   Left None s None s' = Q s s'
@@ -100,7 +103,7 @@ module _ {S S' B B' : Type 0} (W : Type 0) (P : Option Place → Option Place �
   abbrev pub Tested : Link S Bool S' Bool
   Tested t s t' s' = (t' ≡ t) × Q s s'
 
-  next_below : (more : Act S (Option B)) (more' : Act S' (Option B')) → BelowFrom W P Q Left more more' → (o : Option B) (o' : Option B') → BelowFrom W P (λ s s'. Left o s o' s') Left (next_or more o) (next_or more' o')
+  pub next_below : (more : Act S (Option B)) (more' : Act S' (Option B')) → BelowFrom W P Q Left more more' → (o : Option B) (o' : Option B') → BelowFrom W P (λ s s'. Left o s o' s') Left (next_or more o) (next_or more' o')
   next_below more more' h None None = h
   next_below more more' h None (Some b') = λ s s' w r. absurd r
   next_below more more' h (Some b) None = λ s s' w r. absurd r
@@ -111,56 +114,56 @@ module _ {S S' B B' : Type 0} (W : Type 0) (P : Option Place → Option Place �
   OrderBelow [] [] = Unit {0}
   OrderBelow [] (b ∷ ys) = ⊥
   OrderBelow (a ∷ xs) [] = ⊥
-  OrderBelow (a ∷ xs) (b ∷ ys) = BelowFrom W P Q Left a b × Grows W b × OrderBelow xs ys
+  OrderBelow (a ∷ xs) (b ∷ ys) = BelowFrom W P Q Left a b × Grows b × OrderBelow xs ys
 
-  order_grows : (xs : List (Act S (Option B))) (ys : List (Act S' (Option B'))) → OrderBelow xs ys → Grows W (in_order ys)
-  order_grows xs [] h = grows_order {B = B'} W [] tt
+  order_grows : (xs : List (Act S (Option B))) (ys : List (Act S' (Option B'))) → OrderBelow xs ys → Grows (in_order ys)
+  order_grows xs [] h = grows_order {B = B'} [] tt
   order_grows [] (b ∷ ys) h = absurd h
-  order_grows (a ∷ xs) (b ∷ ys) h = grows_bind W b (next_or (in_order ys)) h.1 (grows_next W (in_order ys) (order_grows xs ys h.2))
+  order_grows (a ∷ xs) (b ∷ ys) h = grows_bind b (next_or (in_order ys)) h.1 (grows_next (in_order ys) (order_grows xs ys h.2))
 
   pub order_below : (xs : List (Act S (Option B))) (ys : List (Act S' (Option B'))) → OrderBelow xs ys → BelowFrom W P Q Left (in_order xs) (in_order ys)
   order_below [] [] h = λ s s' w r. (None, s', r, refl)
   order_below [] (b ∷ ys) h = absurd h
   order_below (a ∷ xs) [] h = absurd h
-  order_below (a ∷ xs) (b ∷ ys) h = below_bind W P Q Left Left a b (next_or (in_order xs)) (next_or (in_order ys)) h.0 (next_below (in_order xs) (in_order ys) (order_below xs ys h.2)) (grows_next W (in_order ys) (order_grows xs ys h.2))
+  order_below (a ∷ xs) (b ∷ ys) h = below_bind W P Q Left Left a b (next_or (in_order xs)) (next_or (in_order ys)) h.0 (next_below (in_order xs) (in_order ys) (order_below xs ys h.2)) (grows_next (in_order ys) (order_grows xs ys h.2))
 
-  turn_below : (body more : Act S (Option B)) (body' more' : Act S' (Option B')) → BelowFrom W P Q Left body body' → BelowFrom W P Q Left more more' → Grows W more' → (t t' : Bool) → BelowFrom W P (λ s s'. Tested t s t' s') Left (turn body more t) (turn body' more' t')
-  turn_below body more body' more' h k g true true = λ s s' w r. below_bind W P Q Left Left body body' (next_or more) (next_or more') h (next_below more more' k) (grows_next W more' g) s s' w r.1
+  turn_below : (body more : Act S (Option B)) (body' more' : Act S' (Option B')) → BelowFrom W P Q Left body body' → BelowFrom W P Q Left more more' → Grows more' → (t t' : Bool) → BelowFrom W P (λ s s'. Tested t s t' s') Left (turn body more t) (turn body' more' t')
+  turn_below body more body' more' h k g true true = λ s s' w r. below_bind W P Q Left Left body body' (next_or more) (next_or more') h (next_below more more' k) (grows_next more' g) s s' w r.1
   turn_below body more body' more' h k g false false = λ s s' w r. (None, s', r.1, refl)
   turn_below body more body' more' h k g true false = λ s s' w r. absurd (cc r.0)
   turn_below body more body' more' h k g false true = λ s s' w r. absurd (cc r.0)
 
-  cut_turn_below : (body' more' : Act S' (Option B')) → Grows W body' → Grows W more' → (t t' : Bool) → BelowFrom W P (λ s s'. Tested t s t' s') Left (turn cut cut t) (turn body' more' t')
-  cut_turn_below body' more' h g true true = λ s s' w r. grows_turn W body' more' h g true s' w
+  cut_turn_below : (body' more' : Act S' (Option B')) → Grows body' → Grows more' → (t t' : Bool) → BelowFrom W P (λ s s'. Tested t s t' s') Left (turn cut cut t) (turn body' more' t')
+  cut_turn_below body' more' h g true true = λ s s' w r. grows_turn body' more' h g true s' w
   cut_turn_below body' more' h g false false = λ s s' w r. (None, s', r.1, refl)
   cut_turn_below body' more' h g true false = λ s s' w r. absurd (cc r.0)
   cut_turn_below body' more' h g false true = λ s s' w r. absurd (cc r.0)
 
-  pub iterate_below : (n n' : ℕ) → n ≤ n' → (test : Act S Bool) (test' : Act S' Bool) (body : Act S (Option B)) (body' : Act S' (Option B')) → BelowFrom W P Q Tested test test' → BelowFrom W P Q Left body body' → Grows W test' → Grows W body' → BelowFrom W P Q Left (iterate n test body) (iterate n' test' body')
-  iterate_below zero zero le test test' body body' t b gt gb = below_bind W P Q Tested Left test test' (turn cut cut) (turn cut cut) t (cut_turn_below cut cut (grows_cut S' (Option B') W) (grows_cut S' (Option B') W)) (grows_turn W cut cut (grows_cut S' (Option B') W) (grows_cut S' (Option B') W))
-  iterate_below zero (suc n') le test test' body body' t b gt gb = below_bind W P Q Tested Left test test' (turn cut cut) (turn body' (iterate n' test' body')) t (cut_turn_below body' (iterate n' test' body') gb (grows_iterate W n' test' body' gt gb)) (grows_turn W body' (iterate n' test' body') gb (grows_iterate W n' test' body' gt gb))
+  pub iterate_below : (n n' : ℕ) → n ≤ n' → (test : Act S Bool) (test' : Act S' Bool) (body : Act S (Option B)) (body' : Act S' (Option B')) → BelowFrom W P Q Tested test test' → BelowFrom W P Q Left body body' → Grows test' → Grows body' → BelowFrom W P Q Left (iterate n test body) (iterate n' test' body')
+  iterate_below zero zero le test test' body body' t b gt gb = below_bind W P Q Tested Left test test' (turn cut cut) (turn cut cut) t (cut_turn_below cut cut (grows_cut S' (Option B')) (grows_cut S' (Option B'))) (grows_turn cut cut (grows_cut S' (Option B')) (grows_cut S' (Option B')))
+  iterate_below zero (suc n') le test test' body body' t b gt gb = below_bind W P Q Tested Left test test' (turn cut cut) (turn body' (iterate n' test' body')) t (cut_turn_below body' (iterate n' test' body') gb (grows_iterate n' test' body' gt gb)) (grows_turn body' (iterate n' test' body') gb (grows_iterate n' test' body' gt gb))
   iterate_below (suc n) zero le test test' body body' t b gt gb = absurd (omega arith)
-  iterate_below (suc n) (suc n') le test test' body body' t b gt gb = below_bind W P Q Tested Left test test' (turn body (iterate n test body)) (turn body' (iterate n' test' body')) t (turn_below body (iterate n test body) body' (iterate n' test' body') b (iterate_below n n' (omega arith) test test' body body' t b gt gb) (grows_iterate W n' test' body' gt gb)) (grows_turn W body' (iterate n' test' body') gb (grows_iterate W n' test' body' gt gb))
+  iterate_below (suc n) (suc n') le test test' body body' t b gt gb = below_bind W P Q Tested Left test test' (turn body (iterate n test body)) (turn body' (iterate n' test' body')) t (turn_below body (iterate n test body) body' (iterate n' test' body') b (iterate_below n n' (omega arith) test test' body body' t b gt gb) (grows_iterate n' test' body' gt gb)) (grows_turn body' (iterate n' test' body') gb (grows_iterate n' test' body' gt gb))
 
 -- What goes as far as itself.
-pub below_self : {S A : Type 0} (x : Stretch S A) → Below (Unit {0}) (λ p q. q ≡ p) Same x x
+pub below_self : {S A : Type 0} (x : Stretch S A) → Below Any (λ p q. q ≡ p) Same x x
 below_self (Going value state sofar) = (value, state, (refl, refl), refl)
-below_self (Stopped (Ended sofar status place)) = (place, refl, refl)
+below_self (Stopped (Ended sofar status location)) = (location, refl, refl)
 below_self (Stopped (Cut sofar)) = begun_same sofar
 below_self (Stopped (Wrong fault)) = (tt, refl)
 
 -- the same with a weaker relation of what goes on
-pub below_weaker : {S A S' A' : Type 0} (W : Type 0) (P : Option Place → Option Place → Type 0) (R T : Link S A S' A') → ((a : A) (s : S) (a' : A') (s' : S') → R a s a' s' → T a s a' s') → (x : Stretch S A) (y : Stretch S' A') → Below W P R x y → Below W P T x y
+pub below_weaker : {S A S' A' : Type 0} (W : Owed) (P : Option Location → Option Location → Type 0) (R T : Link S A S' A') → ((a : A) (s : S) (a' : A') (s' : S') → R a s a' s' → T a s a' s') → (x : Stretch S A) (y : Stretch S' A') → Below W P R x y → Below W P T x y
 below_weaker W P R T k (Going value state sofar) y h = (h.0, h.1, k value state h.0 h.1 h.2, h.3)
-below_weaker W P R T k (Stopped (Ended sofar status place)) y h = h
+below_weaker W P R T k (Stopped (Ended sofar status location)) y h = h
 below_weaker W P R T k (Stopped (Cut sofar)) y h = h
 below_weaker W P R T k (Stopped (Wrong fault)) y h = h
 
 -- nothing is owed where there is no rule, and places are the same
-abbrev U : Type 0
-U = Unit {0}
+abbrev U : Owed
+U = Any
 
-abbrev P : Option Place → Option Place → Type 0
+abbrev P : Option Location → Option Location → Type 0
 P p q = q ≡ p
 
 abbrev Q : (S : Type 0) → S → S → Type 0
@@ -180,13 +183,13 @@ same_left (Some b) s None s' h = absurd h
 same_left (Some b) s (Some b') s' h = (ap Some h.0, h.1)
 
 -- a loop beside itself with more turns
-pub loop_larger : {S B : Type 0} (n n' : ℕ) → n ≤ n' → (test : Act S Bool) (body : Act S (Option B)) → Grows U test → Grows U body → (state : S) (sofar : Written) → Below U P Same (iterate n test body state sofar) (iterate n' test body state sofar)
+pub loop_larger : {S B : Type 0} (n n' : ℕ) → n ≤ n' → (test : Act S Bool) (body : Act S (Option B)) → Grows test → Grows body → (state : S) (sofar : Written) → Below U P Same (iterate n test body state sofar) (iterate n' test body state sofar)
 loop_larger {S} {B} n n' le test body gt gb state sofar =
     below_weaker U P (Left U P (Q S) Same) Same same_left (iterate n test body state sofar) (iterate n' test body state sofar)
     (iterate_below U P (Q S) Same n n' le test test body body (from_self test (Tested {B = B} {B' = B} U P (Q S) Same) (λ t s. (refl, refl))) (from_self body (Left U P (Q S) Same) left_same) gt gb state state sofar refl)
 
 -- an act in a state of its own beside its fellow in one
-pub within_below : {S S' A A' : Type 0} (W : Type 0) (P : Option Place → Option Place → Type 0) (Q K : S → S' → Type 0) (R T : Link S A S' A') (enter : S → S) (leave : S → S → S) (enter' : S' → S') (leave' : S' → S' → S') (act : Act S A) (act' : Act S' A') → ((s : S) (s' : S') → Q s s' → K (enter s) (enter' s')) → ((s : S) (s' : S') → Q s s' → (a : A) (t : S) (a' : A') (t' : S') → R a t a' t' → T a (leave s t) a' (leave' s' t')) → BelowFrom W P K R act act' → BelowFrom W P Q T (within enter leave act) (within enter' leave' act')
+pub within_below : {S S' A A' : Type 0} (W : Owed) (P : Option Location → Option Location → Type 0) (Q K : S → S' → Type 0) (R T : Link S A S' A') (enter : S → S) (leave : S → S → S) (enter' : S' → S') (leave' : S' → S' → S') (act : Act S A) (act' : Act S' A') → ((s : S) (s' : S') → Q s s' → K (enter s) (enter' s')) → ((s : S) (s' : S') → Q s s' → (a : A) (t : S) (a' : A') (t' : S') → R a t a' t' → T a (leave s t) a' (leave' s' t')) → BelowFrom W P K R act act' → BelowFrom W P Q T (within enter leave act) (within enter' leave' act')
 within_below W P Q K R T enter leave enter' leave' act act' into out h state state' sofar q =
     below_then W P R T (act (enter state) sofar) (act' (enter' state') sofar) (λ value inner later. Going value (leave state inner) later) (λ value inner later. Going value (leave' state' inner) later)
     (h (enter state) (enter' state') sofar (into state state' q))

@@ -1,7 +1,9 @@
 -- The few combinators of which every meaning is made: of Fortran, of the tree and of C. An act goes on
 -- from a state and from what has been written so far. It ends by itself: `n` bounds the turns of a loop.
 use Rattle.std.specs.Prelude.{ℕ, zero, suc, ◌+◌, ◌%◌, Bool, true, false, List, [], ◌∷◌, ◌++◌, Option, Some, None}
-use Rattle.lf_base.specs.Outcome.{Place, Written, Fault, Outcome, Ended, Cut, Wrong}
+use Rattle.lf_base.specs.Outcome.{Location, Written, Fault, Away, Outcome, Ended, Cut, Wrong}
+use Rattle.lf_base.specs.Traps.{trap_status, trap_text}
+use Rattle.lf_base.specs.declared.trap.Trap.{Trap}
 
 -- a stretch goes on with a value in a state, or the program stops
 pub data Stretch (S A : Type 0) : Type 0 where
@@ -41,9 +43,13 @@ complain bytes state sofar = Going tt state (record { out = sofar.out; err = sof
 abbrev pub stop : {S A : Type 0} → ℕ → Act S A
 stop status state sofar = Stopped (Ended sofar (status % 256) None)
 
--- the end by a trap of this number and text, at a place
-abbrev pub trap : {S A : Type 0} → ℕ → List ℕ → Option Place → Act S A
-trap number text place state sofar = Stopped (Ended (record { out = sofar.out; err = sofar.err ++ text }) (100 + number) place)
+-- the end by a trap with this text, at a location where the meaning gives one
+abbrev pub trap : {S A : Type 0} → Trap → List ℕ → Option Location → Act S A
+trap cause text location state sofar = Stopped (Ended (record { out = sofar.out; err = sofar.err ++ text }) (trap_status cause) location)
+
+-- the end by a trap whose text tells its location
+abbrev pub trap_at : {S A : Type 0} → Trap → Location → Act S A
+trap_at cause location = trap cause (trap_text cause location) (Some location)
 
 -- a bound was reached
 abbrev pub cut : {S A : Type 0} → Act S A
@@ -52,6 +58,10 @@ cut state sofar = Stopped (Cut sofar)
 -- there is no rule
 abbrev pub wrong : {S A : Type 0} → Fault → Act S A
 wrong fault state sofar = Stopped (Wrong fault)
+
+-- the body of what is called is elsewhere
+abbrev pub away : {S A : Type 0} → Act S A
+away state sofar = Stopped (Wrong (Away sofar))
 
 -- what a value says, or a fault where there is none
 abbrev pub given : {S A : Type 0} → Fault → Option A → Act S A

@@ -8,8 +8,10 @@ pub mod MemSource
 pub mod MemStore
 pub mod Monotone
 pub mod Near
+pub mod Operators
 pub mod Order
 pub mod Outcome
 pub mod Puts
 pub mod Rules
 pub mod SureStore
+pub mod Traps

@@ -1,7 +1,7 @@
 //! Laws of the definitions: each is the contract of a function that does nothing.
 
 ghost use Rattle.std.specs.Prelude.{◌≡◌, ℕ, ◌≤◌, List, Bool, Option};
-ghost use Rattle.lf_base.specs.Outcome.{Place, Written, Meaning};
+ghost use Rattle.lf_base.specs.Outcome.{Written, Meaning, Any};
 ghost use Rattle.lf_base.specs.Near.{Near, Agree, IsMonotone};
 ghost use Rattle.lf_base.specs.Acts.{Act, iterate};
 ghost use Rattle.lf_base.specs.Order.{Grows, Below, Same};
@@ -9,7 +9,7 @@ ghost use Rattle.lf_base.specs.Order.{Grows, Below, Same};
 /// A loop that may make more turns goes at least as far: it ends alike where it ended, and where it was
 /// cut it writes at least as much. S is the state of the program, B what a loop is left with.
 pub fn larger_bounds<S, B>()
-    ensures { (n n' : ℕ) → n ≤ n' → (test : Act S Bool) (body : Act S (Option B)) → Grows (Unit {0}) test → Grows (Unit {0}) body → (state : S) (sofar : Written) → Below (Unit {0}) (λ p q. q ≡ p) Same (iterate n test body state sofar) (iterate n' test body state sofar) }
+    ensures { (n n' : ℕ) → n ≤ n' → (test : Act S Bool) (body : Act S (Option B)) → Grows test → Grows body → (state : S) (sofar : Written) → Below Any (λ p q. q ≡ p) Same (iterate n test body state sofar) (iterate n' test body state sofar) }
 {}
 
 /// Seven links of near meanings, one behind another, make the first and the last agree.

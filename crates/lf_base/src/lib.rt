@@ -17,6 +17,7 @@ mod store;
 mod sure_sink;
 mod sure_source;
 mod sure_store;
+mod trap;
 
 pub use fault::{Failed, GetFault, LexFault, Memory, PutFault, RuleFault, SyntaxFault};
 pub use id::{ExprId, StmtId, SymId, TableId};
@@ -31,3 +32,4 @@ pub use store::Store;
 pub use sure_sink::SureSink;
 pub use sure_source::SureSource;
 pub use sure_store::SureStore;
+pub use trap::Trap;

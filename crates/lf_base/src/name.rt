@@ -1,4 +1,4 @@
-ghost use Rattle.std.specs.Prelude.{◌≡◌, IfOk};
+ghost use Rattle.std.specs.Prelude.{◌≡◌, ◌↔◌, IfOk, IsTrue};
 
 use crate::fault::Memory;
 use std::alloc::Global;
@@ -24,10 +24,23 @@ impl Name {
     pub fn new(alloc: Global, bytes: &[u8]) -> Result<Name, Memory>
         ensures { IfOk result (λ n. n ≡ bytes.now) }
     {
-        match Vec::from_slice(alloc, bytes) {
-            Ok(bytes) => Ok(Name { bytes }),
-            Err(_) => Err(Memory),
-        }
+        Ok(Name {
+            bytes: Vec::from_slice(alloc, bytes)?,
+        })
+    }
+
+    /// Another name of the same bytes. It fails only for want of memory.
+    pub fn copied(&self, alloc: Global) -> Result<Name, Memory>
+        ensures { IfOk result (λ n. n ≡ self.now) }
+    {
+        Name::new(alloc, self.bytes())
+    }
+
+    /// Whether the two names have the same bytes.
+    pub fn is(&self, other: &Name) -> bool
+        ensures { IsTrue result ↔ (self.now ≡ other.now) }
+    {
+        self.bytes == other.bytes
     }
 
     /// The bytes of the name.

@@ -49,9 +49,7 @@ impl Sink for SureSink {
     ghost keeps_further = { λ _ _ _ _ _. tt };
 
     fn put(&mut self, piece: &[u8]) -> Result<(), PutFault> {
-        match self.bytes.extend_from_slice(piece) {
-            Ok(()) => Ok(()),
-            Err(_) => Err(PutFault::Memory),
-        }
+        self.bytes.extend_from_slice(piece)?;
+        Ok(())
     }
 }

@@ -100,10 +100,10 @@ impl Sink for SureStore {
     fn put(&mut self, piece: &[u8]) -> Result<(), PutFault> {
         match &mut self.pending {
             None => Ok(()),
-            Some(file) => match file.bytes.extend_from_slice(piece) {
-                Ok(()) => Ok(()),
-                Err(_) => Err(PutFault::Memory),
-            },
+            Some(file) => {
+                file.bytes.extend_from_slice(piece)?;
+                Ok(())
+            }
         }
     }
 }
@@ -129,33 +129,25 @@ impl Store for SureStore {
         if file.bytes.len() > GREATEST_FILE {
             return Err(GetFault::TooLong);
         }
-        match Vec::from_slice(alloc, file.bytes.as_slice()) {
-            Ok(bytes) => Ok(bytes),
-            Err(_) => Err(GetFault::Memory),
-        }
+        Ok(Vec::from_slice(alloc, file.bytes.as_slice())?)
     }
 
     fn start(&mut self, name: &str) -> Result<(), PutFault> {
         self.pending = None;
-        match Vec::from_slice(self.alloc, name.as_bytes()) {
-            Ok(name) => {
-                self.pending = Some(StoredFile {
-                    name,
-                    bytes: Vec::new(self.alloc),
-                });
-                Ok(())
-            }
-            Err(_) => Err(PutFault::Memory),
-        }
+        self.pending = Some(StoredFile {
+            name: Vec::from_slice(self.alloc, name.as_bytes())?,
+            bytes: Vec::new(self.alloc),
+        });
+        Ok(())
     }
 
     fn finish(&mut self) -> Result<(), PutFault> {
         match self.pending.take() {
             None => unreachable!(),
-            Some(file) => match self.files.push_front(file) {
-                Ok(()) => Ok(()),
-                Err(_) => Err(PutFault::Memory),
-            },
+            Some(file) => {
+                self.files.push_front(file)?;
+                Ok(())
+            }
         }
     }
 }

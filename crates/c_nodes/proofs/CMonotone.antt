@@ -22,44 +22,41 @@ use Rattle.c_nodes.proofs.StmtInduction.{by_cases}
 use Rattle.c_nodes.proofs.CRuns.{all_do}
 use Rattle.c_nodes.proofs.CStmts.{does-Declare, does-DeclareArray, does-DeclareValue, does-DeclarePointer, does-DeclareCall, does-Assign, does-AssignCall, does-Call, does-Return, does-ReturnValue, does-ReturnCall, does-Goto, does-Label, does-Block, does-While, does-If, does-IfElse, clause-Declare, clause-DeclareArray, clause-DeclareValue, clause-DeclarePointer, clause-DeclareCall, clause-Assign, clause-AssignCall, clause-Call, clause-Return, clause-ReturnValue, clause-ReturnCall, clause-Goto, clause-Label, clause-Block, clause-While, clause-If, clause-IfElse}
 
-abbrev U : Type 0
-U = Unit {0}
-
 abbrev G : {A : Type 0} → Act State A → Type 0
-G act = Grows U act
+G act = Grows act
 
 given_grows : {A : Type 0} (o : Option A) → G (given {S = State} Undefined o)
-given_grows o = grows_given State U tt Undefined o
+given_grows o = grows_given State Undefined (λ w. tt) o
 
 value_grows : (e : CExpr) → G (value_of e)
-value_grows e = grows_bind U (look (λ s. (reading e).value s)) (given Undefined) (grows_look U (λ s. (reading e).value s)) given_grows
+value_grows e = grows_bind (look (λ s. (reading e).value s)) (given Undefined) (grows_look (λ s. (reading e).value s)) given_grows
 
 place_grows : (e : CExpr) → G (place_of e)
-place_grows e = grows_bind U (look (λ s. (reading e).place s)) (given Undefined) (grows_look U (λ s. (reading e).place s)) given_grows
+place_grows e = grows_bind (look (λ s. (reading e).place s)) (given Undefined) (grows_look (λ s. (reading e).place s)) given_grows
 
 become_grows : (o : Option State) → G (become o)
-become_grows o = grows_bind U (given Undefined o) (λ s. change (λ _. s)) (given_grows o) (λ s. grows_change U (λ _. s))
+become_grows o = grows_bind (given Undefined o) (λ s. change (λ _. s)) (given_grows o) (λ s. grows_change (λ _. s))
 
 store_grows : (p : Designated) (v : CValue) → G (store p v)
-store_grows p v = grows_bind U (look (stored_in p v)) become (grows_look U (stored_in p v)) become_grows
+store_grows p v = grows_bind (look (stored_in p v)) become (grows_look (stored_in p v)) become_grows
 
 initialize_grows : (v : CValue) → G (initialize v)
-initialize_grows v = grows_bind U (bind (look newest) (given Undefined)) (λ p. store p v) (grows_bind U (look newest) (given Undefined) (grows_look U newest) given_grows) (λ p. store_grows p v)
+initialize_grows v = grows_bind (bind (look newest) (given Undefined)) (λ p. store p v) (grows_bind (look newest) (given Undefined) (grows_look newest) given_grows) (λ p. store_grows p v)
 
 next_grows : (act : Act State (Unit {0})) → G act → G (then_next act)
-next_grows act h = grows_bind U act (λ u. give None) h (λ u. grows_give {A = Option Flow} U None)
+next_grows act h = grows_bind act (λ u. give None) h (λ u. grows_give {A = Option Flow} None)
 
 tested_grows : (e : CExpr) → G (tested e)
-tested_grows e = grows_bind U (value_of e) (λ v. given Undefined (holds v)) (value_grows e) (λ v. given_grows (holds v))
+tested_grows e = grows_bind (value_of e) (λ v. given Undefined (holds v)) (value_grows e) (λ v. given_grows (holds v))
 
 abbrev CallsGrow : Calls → Type 0
 CallsGrow calls = (name : List ℕ) (vs : List CValue) → G (calls name vs)
 
 answer_grows : (calls : Calls) → CallsGrow calls → (callee : Name) (es : List CExpr) → G (answer calls callee es)
-answer_grows calls g callee es = grows_bind U (arguments_of es) (calls callee) (grows_bind U (look (λ s. all_given (map (λ e. (reading e).value s) es))) (given Undefined) (grows_look U (λ s. all_given (map (λ e. (reading e).value s) es))) given_grows) (g callee)
+answer_grows calls g callee es = grows_bind (arguments_of es) (calls callee) (grows_bind (look (λ s. all_given (map (λ e. (reading e).value s) es))) (given Undefined) (grows_look (λ s. all_given (map (λ e. (reading e).value s) es))) given_grows) (g callee)
 
 answered_grows : (calls : Calls) → CallsGrow calls → (callee : Name) (es : List CExpr) → G (answered calls callee es)
-answered_grows calls g callee es = grows_bind U (answer calls callee es) (given Undefined) (answer_grows calls g callee es) given_grows
+answered_grows calls g callee es = grows_bind (answer calls callee es) (given Undefined) (answer_grows calls g callee es) given_grows
 
 choose_grows : (a b : Doing) → G a → G b → (t : Bool) → G (choose a b t)
 choose_grows a b g h true = g
@@ -71,43 +68,43 @@ all_map P f (s ∷ body) h = (h.0, all_map P f body h.1)
 
 block_grows : (body : List Clause) → AllByRecursion (λ c. G c.does) body → G (block body)
 block_grows body h =
-    grows_bind U (within (λ s. s) closed (in_order (map (λ c. c.does) body))) (λ flow. give (landed (last_label body) flow))
-    (grows_within U (λ s. s) closed (in_order (map (λ c. c.does) body)) (grows_order U (map (λ c. c.does) body) (all_map G (λ c. c.does) body h)))
-    (λ flow. grows_give U (landed (last_label body) flow))
+    grows_bind (within (λ s. s) closed (in_order (map (λ c. c.does) body))) (λ flow. give (landed (last_label body) flow))
+    (grows_within (λ s. s) closed (in_order (map (λ c. c.does) body)) (grows_order (map (λ c. c.does) body) (all_map G (λ c. c.does) body h)))
+    (λ flow. grows_give (landed (last_label body) flow))
 
 -- a declaration, and then its value
 declared_grows : (begins : State → State) (act : Act State CValue) → G act → G (then_next (bind (change begins) (λ u. bind act initialize)))
-declared_grows begins act h = next_grows (bind (change begins) (λ u. bind act initialize)) (grows_bind U (change begins) (λ u. bind act initialize) (grows_change U begins) (λ u. grows_bind U act initialize h initialize_grows))
+declared_grows begins act h = next_grows (bind (change begins) (λ u. bind act initialize)) (grows_bind (change begins) (λ u. bind act initialize) (grows_change begins) (λ u. grows_bind act initialize h initialize_grows))
 
 array_grows : (kind : CType) (name : Name) (v : CValue) → G (begin_array kind name v)
 array_grows kind name v =
-    grows_bind U (bind (look (room kind v)) (given Undefined)) (λ slot. change (declare name slot))
-    (grows_bind U (look (room kind v)) (given Undefined) (grows_look U (room kind v)) given_grows)
-    (λ slot. grows_change U (declare name slot))
+    grows_bind (bind (look (room kind v)) (given Undefined)) (λ slot. change (declare name slot))
+    (grows_bind (look (room kind v)) (given Undefined) (grows_look (room kind v)) given_grows)
+    (λ slot. grows_change (declare name slot))
 
 assigned_grows : (target : CExpr) (act : Act State CValue) → G act → G (then_next (bind act (λ v. bind (place_of target) (λ p. store p v))))
-assigned_grows target act h = next_grows (bind act (λ v. bind (place_of target) (λ p. store p v))) (grows_bind U act (λ v. bind (place_of target) (λ p. store p v)) h (λ v. grows_bind U (place_of target) (λ p. store p v) (place_grows target) (λ p. store_grows p v)))
+assigned_grows target act h = next_grows (bind act (λ v. bind (place_of target) (λ p. store p v))) (grows_bind act (λ v. bind (place_of target) (λ p. store p v)) h (λ v. grows_bind (place_of target) (λ p. store p v) (place_grows target) (λ p. store_grows p v)))
 
 module _ (n : ℕ) (calls : Calls) (g : CallsGrow calls) where
   pub statement_grows : (s : CStmt) → G (statement n calls s)
   statement_grows = by_cases (λ s. G (statement n calls s)) (record {
-    declare = λ kind name. subst G (sym (does-Declare n calls kind name)) (next_grows (change (begin_object kind name)) (grows_change U (begin_object kind name)));
-    declare_array = λ kind name size. subst G (sym (does-DeclareArray n calls kind name size)) (next_grows (bind (value_of size) (begin_array kind name)) (grows_bind U (value_of size) (begin_array kind name) (value_grows size) (array_grows kind name)));
+    declare = λ kind name. subst G (sym (does-Declare n calls kind name)) (next_grows (change (begin_object kind name)) (grows_change (begin_object kind name)));
+    declare_array = λ kind name size. subst G (sym (does-DeclareArray n calls kind name size)) (next_grows (bind (value_of size) (begin_array kind name)) (grows_bind (value_of size) (begin_array kind name) (value_grows size) (array_grows kind name)));
     declare_value = λ kind name value. subst G (sym (does-DeclareValue n calls kind name value)) (declared_grows (begin_object kind name) (value_of value) (value_grows value));
     declare_pointer = λ kind name value. subst G (sym (does-DeclarePointer n calls kind name value)) (declared_grows (declare name (Leads None)) (value_of value) (value_grows value));
     declare_call = λ kind name callee es. subst G (sym (does-DeclareCall n calls kind name callee es)) (declared_grows (begin_object kind name) (answered calls callee es) (answered_grows calls g callee es));
     assign = λ target value. subst G (sym (does-Assign n calls target value)) (assigned_grows target (value_of value) (value_grows value));
     assign_call = λ target callee es. subst G (sym (does-AssignCall n calls target callee es)) (assigned_grows target (answered calls callee es) (answered_grows calls g callee es));
-    call = λ callee es. subst G (sym (does-Call n calls callee es)) (grows_bind U (answer calls callee es) (λ v. give None) (answer_grows calls g callee es) (λ v. grows_give {A = Option Flow} U None));
-    return = subst G (sym (does-Return n calls)) (grows_give {A = Option Flow} U (Some (Returned None)));
-    return_value = λ value. subst G (sym (does-ReturnValue n calls value)) (grows_bind U (value_of value) (λ v. give (Some (Returned (Some v)))) (value_grows value) (λ v. grows_give {A = Option Flow} U (Some (Returned (Some v)))));
-    return_call = λ callee es. subst G (sym (does-ReturnCall n calls callee es)) (grows_bind U (answered calls callee es) (λ v. give (Some (Returned (Some v)))) (answered_grows calls g callee es) (λ v. grows_give {A = Option Flow} U (Some (Returned (Some v)))));
-    goto = λ label. subst G (sym (does-Goto n calls label)) (grows_give {A = Option Flow} U (Some (Jumped label)));
-    label = λ name. subst G (sym (does-Label n calls name)) (grows_give {A = Option Flow} U None);
+    call = λ callee es. subst G (sym (does-Call n calls callee es)) (grows_bind (answer calls callee es) (λ v. give None) (answer_grows calls g callee es) (λ v. grows_give {A = Option Flow} None));
+    return = subst G (sym (does-Return n calls)) (grows_give {A = Option Flow} (Some (Returned None)));
+    return_value = λ value. subst G (sym (does-ReturnValue n calls value)) (grows_bind (value_of value) (λ v. give (Some (Returned (Some v)))) (value_grows value) (λ v. grows_give {A = Option Flow} (Some (Returned (Some v)))));
+    return_call = λ callee es. subst G (sym (does-ReturnCall n calls callee es)) (grows_bind (answered calls callee es) (λ v. give (Some (Returned (Some v)))) (answered_grows calls g callee es) (λ v. grows_give {A = Option Flow} (Some (Returned (Some v)))));
+    goto = λ label. subst G (sym (does-Goto n calls label)) (grows_give {A = Option Flow} (Some (Jumped label)));
+    label = λ name. subst G (sym (does-Label n calls name)) (grows_give {A = Option Flow} None);
     block = λ body h. subst G (sym (does-Block n calls body)) (block_grows (map (clause n calls) body) (all_map (λ c. G c.does) (clause n calls) body h));
-    while = λ test body h. subst G (sym (does-While n calls test body)) (grows_iterate U n (tested test) (block (map (clause n calls) body)) (tested_grows test) (block_grows (map (clause n calls) body) (all_map (λ c. G c.does) (clause n calls) body h)));
-    «if» = λ test body h. subst G (sym (does-If n calls test body)) (grows_bind U (tested test) (choose (block (map (clause n calls) body)) (give None)) (tested_grows test) (choose_grows (block (map (clause n calls) body)) (give None) (block_grows (map (clause n calls) body) (all_map (λ c. G c.does) (clause n calls) body h)) (grows_give {A = Option Flow} U None)));
-    if_else = λ test body other h k. subst G (sym (does-IfElse n calls test body other)) (grows_bind U (tested test) (choose (block (map (clause n calls) body)) (block (map (clause n calls) other))) (tested_grows test) (choose_grows (block (map (clause n calls) body)) (block (map (clause n calls) other)) (block_grows (map (clause n calls) body) (all_map (λ c. G c.does) (clause n calls) body h)) (block_grows (map (clause n calls) other) (all_map (λ c. G c.does) (clause n calls) other k))));
+    while = λ test body h. subst G (sym (does-While n calls test body)) (grows_iterate n (tested test) (block (map (clause n calls) body)) (tested_grows test) (block_grows (map (clause n calls) body) (all_map (λ c. G c.does) (clause n calls) body h)));
+    «if» = λ test body h. subst G (sym (does-If n calls test body)) (grows_bind (tested test) (choose (block (map (clause n calls) body)) (give None)) (tested_grows test) (choose_grows (block (map (clause n calls) body)) (give None) (block_grows (map (clause n calls) body) (all_map (λ c. G c.does) (clause n calls) body h)) (grows_give {A = Option Flow} None)));
+    if_else = λ test body other h k. subst G (sym (does-IfElse n calls test body other)) (grows_bind (tested test) (choose (block (map (clause n calls) body)) (block (map (clause n calls) other))) (tested_grows test) (choose_grows (block (map (clause n calls) body)) (block (map (clause n calls) other)) (block_grows (map (clause n calls) body) (all_map (λ c. G c.does) (clause n calls) body h)) (block_grows (map (clause n calls) other) (all_map (λ c. G c.does) (clause n calls) other k))));
   })
 
   all_grow : (body : List CStmt) → AllByRecursion (λ s. G (statement n calls s)) body
@@ -115,46 +112,46 @@ module _ (n : ℕ) (calls : Calls) (g : CallsGrow calls) where
   all_grow (s ∷ body) = (statement_grows s, all_grow body)
 
   pub statements_grow : (body : List CStmt) → G (statements n calls body)
-  statements_grow body = grows_order U (map (statement n calls) body) (all_map G (statement n calls) body (all_grow body))
+  statements_grow body = grows_order (map (statement n calls) body) (all_map G (statement n calls) body (all_grow body))
 
   pub call_grows : (p : Procedure) (vs : List CValue) → G (call n calls p vs)
   call_grows p vs =
-      grows_bind U (bind (look (entered (bound_all p.parameters vs (Some no_names)))) become) (λ u. within (λ s. s) (λ before after. left after) (bind (statements n calls p.body) (λ flow. give (returned p.result flow))))
-      (grows_bind U (look (entered (bound_all p.parameters vs (Some no_names)))) become (grows_look U (entered (bound_all p.parameters vs (Some no_names)))) become_grows)
-      (λ u. grows_within U (λ s. s) (λ before after. left after) (bind (statements n calls p.body) (λ flow. give (returned p.result flow))) (grows_bind U (statements n calls p.body) (λ flow. give (returned p.result flow)) (statements_grow p.body) (λ flow. grows_give U (returned p.result flow))))
+      grows_bind (bind (look (entered (bound_all p.parameters vs (Some no_names)))) become) (λ u. within (λ s. s) (λ before after. left after) (bind (statements n calls p.body) (λ flow. give (returned p.result flow))))
+      (grows_bind (look (entered (bound_all p.parameters vs (Some no_names)))) become (grows_look (entered (bound_all p.parameters vs (Some no_names)))) become_grows)
+      (λ u. grows_within (λ s. s) (λ before after. left after) (bind (statements n calls p.body) (λ flow. give (returned p.result flow))) (grows_bind (statements n calls p.body) (λ flow. give (returned p.result flow)) (statements_grow p.body) (λ flow. grows_give (returned p.result flow))))
 
 on_int_grows : (o : Option CValue) (go : ℤ → Act State (Option CValue)) → ((z : ℤ) → G (go z)) → G (on_int o go)
-on_int_grows None go h = grows_wrong State (Option CValue) U tt Undefined
+on_int_grows None go h = grows_wrong State (Option CValue) Undefined (λ w. tt)
 on_int_grows (Some (Number w z)) go h = h z
-on_int_grows (Some v) go h = grows_wrong State (Option CValue) U tt Undefined
+on_int_grows (Some v) go h = grows_wrong State (Option CValue) Undefined (λ w. tt)
 
 pub procedure_grows : (o : Option Procedure) (go : Procedure → Act State (Option CValue)) → ((p : Procedure) → G (go p)) → G (on_procedure o go)
-procedure_grows None go h = grows_wrong State (Option CValue) U tt Undefined
+procedure_grows None go h = grows_wrong State (Option CValue) Undefined (λ w. tt)
 procedure_grows (Some p) go h = h p
 
 -- the library's functions
 put_out_grows : (vs : List CValue) → G (put_out vs)
-put_out_grows [] = grows_wrong State (Option CValue) U tt Undefined
-put_out_grows (v ∷ []) = on_int_grows (to_int (Some v)) (λ z. bind (print (byte_of z ∷ [])) (λ u. give (written_byte z))) (λ z. grows_bind U (print (byte_of z ∷ [])) (λ u. give (written_byte z)) (grows_print U (byte_of z ∷ [])) (λ u. grows_give U (written_byte z)))
-put_out_grows (v ∷ x ∷ vs) = grows_wrong State (Option CValue) U tt Undefined
+put_out_grows [] = grows_wrong State (Option CValue) Undefined (λ w. tt)
+put_out_grows (v ∷ []) = on_int_grows (to_int (Some v)) (λ z. bind (print (byte_of z ∷ [])) (λ u. give (written_byte z))) (λ z. grows_bind (print (byte_of z ∷ [])) (λ u. give (written_byte z)) (grows_print (byte_of z ∷ [])) (λ u. grows_give (written_byte z)))
+put_out_grows (v ∷ x ∷ vs) = grows_wrong State (Option CValue) Undefined (λ w. tt)
 
 put_error_grows : (vs : List CValue) → G (put_error vs)
-put_error_grows [] = grows_wrong State (Option CValue) U tt Undefined
-put_error_grows (v ∷ []) = grows_wrong State (Option CValue) U tt Undefined
-put_error_grows (v ∷ Errors ∷ []) = on_int_grows (to_int (Some v)) (λ z. bind (complain (byte_of z ∷ [])) (λ u. give (written_byte z))) (λ z. grows_bind U (complain (byte_of z ∷ [])) (λ u. give (written_byte z)) (grows_complain U (byte_of z ∷ [])) (λ u. grows_give U (written_byte z)))
-put_error_grows (v ∷ Errors ∷ x ∷ vs) = grows_wrong State (Option CValue) U tt Undefined
-put_error_grows (v ∷ Number w z ∷ vs) = grows_wrong State (Option CValue) U tt Undefined
-put_error_grows (v ∷ Pointer b o ∷ vs) = grows_wrong State (Option CValue) U tt Undefined
-put_error_grows (v ∷ Structure tag cells ∷ vs) = grows_wrong State (Option CValue) U tt Undefined
+put_error_grows [] = grows_wrong State (Option CValue) Undefined (λ w. tt)
+put_error_grows (v ∷ []) = grows_wrong State (Option CValue) Undefined (λ w. tt)
+put_error_grows (v ∷ Errors ∷ []) = on_int_grows (to_int (Some v)) (λ z. bind (complain (byte_of z ∷ [])) (λ u. give (written_byte z))) (λ z. grows_bind (complain (byte_of z ∷ [])) (λ u. give (written_byte z)) (grows_complain (byte_of z ∷ [])) (λ u. grows_give (written_byte z)))
+put_error_grows (v ∷ Errors ∷ x ∷ vs) = grows_wrong State (Option CValue) Undefined (λ w. tt)
+put_error_grows (v ∷ Number w z ∷ vs) = grows_wrong State (Option CValue) Undefined (λ w. tt)
+put_error_grows (v ∷ Pointer b o ∷ vs) = grows_wrong State (Option CValue) Undefined (λ w. tt)
+put_error_grows (v ∷ Structure tag cells ∷ vs) = grows_wrong State (Option CValue) Undefined (λ w. tt)
 
 get_byte_grows : (vs : List CValue) → G (get_byte vs)
-get_byte_grows [] = grows_bind U (look (λ s. next_byte s.around.input)) (λ v. bind (change without_first) (λ u. give v)) (grows_look U (λ s. next_byte s.around.input)) (λ v. grows_bind U (change without_first) (λ u. give v) (grows_change U without_first) (λ u. grows_give U v))
-get_byte_grows (v ∷ vs) = grows_wrong State (Option CValue) U tt Undefined
+get_byte_grows [] = grows_bind (look (λ s. next_byte s.around.input)) (λ v. bind (change without_first) (λ u. give v)) (grows_look (λ s. next_byte s.around.input)) (λ v. grows_bind (change without_first) (λ u. give v) (grows_change without_first) (λ u. grows_give v))
+get_byte_grows (v ∷ vs) = grows_wrong State (Option CValue) Undefined (λ w. tt)
 
 leave_grows : (vs : List CValue) → G (leave vs)
-leave_grows [] = grows_wrong State (Option CValue) U tt Undefined
-leave_grows (v ∷ []) = on_int_grows (to_int (Some v)) (λ z. stop (byte_of z)) (λ z. grows_stop State (Option CValue) U (byte_of z))
-leave_grows (v ∷ x ∷ vs) = grows_wrong State (Option CValue) U tt Undefined
+leave_grows [] = grows_wrong State (Option CValue) Undefined (λ w. tt)
+leave_grows (v ∷ []) = on_int_grows (to_int (Some v)) (λ z. stop (byte_of z)) (λ z. grows_stop State (Option CValue) (byte_of z))
+leave_grows (v ∷ x ∷ vs) = grows_wrong State (Option CValue) Undefined (λ w. tt)
 
 if_grows : (t : Bool) (a b : Act State (Option CValue)) → G a → G b → G (cond t a b)
 if_grows true a b g h = g
@@ -164,7 +161,7 @@ library_grows : (more : Calls) → CallsGrow more → CallsGrow (library_or more
 library_grows more g name vs = if_grows (bytes_eq name (codes "putchar")) (put_out vs) _ (put_out_grows vs) (if_grows (bytes_eq name (codes "fputc")) (put_error vs) _ (put_error_grows vs) (if_grows (bytes_eq name (codes "getchar")) (get_byte vs) _ (get_byte_grows vs) (if_grows (bytes_eq name (codes "exit")) (leave vs) (more name vs) (leave_grows vs) (g name vs))))
 
 pub calls_grow : (files : List CFile) (n d file : ℕ) → CallsGrow (calls_of files n d file)
-calls_grow files n zero file = library_grows (λ name vs. cut) (λ name vs. grows_cut State (Option CValue) U)
+calls_grow files n zero file = library_grows (λ name vs. cut) (λ name vs. grows_cut State (Option CValue))
 calls_grow files n (suc d) file = library_grows (λ name vs. on_procedure (function_of files file name) (λ p. call n (calls_of files n d p.file) p vs)) (λ name vs. procedure_grows (function_of files file name) (λ p. call n (calls_of files n d p.file) p vs) (λ p. call_grows n (calls_of files n d p.file) (calls_grow files n d p.file) p vs))
 
 -- larger bounds
@@ -191,14 +188,14 @@ after_longer act act' go h g = bind_no_shorter act act' go go h (λ a. same_self
 declared_longer : (begins : State → State) (act act' : Act State CValue) → M act act' → G act' → M (then_next (bind (change begins) (λ u. bind act initialize))) (then_next (bind (change begins) (λ u. bind act' initialize)))
 declared_longer begins act act' h g =
     after_longer (bind (change begins) (λ u. bind act initialize)) (bind (change begins) (λ u. bind act' initialize)) (λ u. give None)
-    (bind_no_shorter (change begins) (change begins) (λ u. bind act initialize) (λ u. bind act' initialize) (same_self (change begins)) (λ u. after_longer act act' initialize h initialize_grows) (λ u. grows_bind U act' initialize g initialize_grows))
-    (λ u. grows_give {A = Option Flow} U None)
+    (bind_no_shorter (change begins) (change begins) (λ u. bind act initialize) (λ u. bind act' initialize) (same_self (change begins)) (λ u. after_longer act act' initialize h initialize_grows) (λ u. grows_bind act' initialize g initialize_grows))
+    (λ u. grows_give {A = Option Flow} None)
 
 assigned_longer : (target : CExpr) (act act' : Act State CValue) → M act act' → M (then_next (bind act (λ v. bind (place_of target) (λ p. store p v)))) (then_next (bind act' (λ v. bind (place_of target) (λ p. store p v))))
 assigned_longer target act act' h =
     after_longer (bind act (λ v. bind (place_of target) (λ p. store p v))) (bind act' (λ v. bind (place_of target) (λ p. store p v))) (λ u. give None)
-    (after_longer act act' (λ v. bind (place_of target) (λ p. store p v)) h (λ v. grows_bind U (place_of target) (λ p. store p v) (place_grows target) (λ p. store_grows p v)))
-    (λ u. grows_give {A = Option Flow} U None)
+    (after_longer act act' (λ v. bind (place_of target) (λ p. store p v)) h (λ v. grows_bind (place_of target) (λ p. store p v) (place_grows target) (λ p. store_grows p v)))
+    (λ u. grows_give {A = Option Flow} None)
 
 module _ (n n' : ℕ) (le : n ≤ n') (calls calls' : Calls) (longer : CallsLonger calls calls') (g : CallsGrow calls') where
   abbrev Holds : CStmt → Type 0
@@ -247,7 +244,7 @@ module _ (n n' : ℕ) (le : n ≤ n') (calls calls' : Calls) (longer : CallsLong
       at_kind _ _ (ended label (map (statement n calls) body)) (ended label (map (statement n' calls') body))
       (ap (λ l. ended (last_label (map (clause n calls) body)) l) (all_do n calls body) ∙ ap (λ o. ended o (map (statement n calls) body)) (labels_same body))
       (ap (λ l. ended label l) (all_do n' calls' body))
-      (after_longer (within (λ s. s) closed (in_order (map (statement n calls) body))) (within (λ s. s) closed (in_order (map (statement n' calls') body))) (λ flow. give (landed label flow)) (within_no_shorter (λ s. s) closed (in_order (map (statement n calls) body)) (in_order (map (statement n' calls') body)) (order_no_shorter (statement n calls) (statement n' calls') body (both body h))) (λ flow. grows_give U (landed label flow)))
+      (after_longer (within (λ s. s) closed (in_order (map (statement n calls) body))) (within (λ s. s) closed (in_order (map (statement n' calls') body))) (λ flow. give (landed label flow)) (within_no_shorter (λ s. s) closed (in_order (map (statement n calls) body)) (in_order (map (statement n' calls') body)) (order_no_shorter (statement n calls) (statement n' calls') body (both body h))) (λ flow. grows_give (landed label flow)))
 
   blocks_grow : (body : List CStmt) → G (block (map (clause n' calls') body))
   blocks_grow body = block_grows (map (clause n' calls') body) (all_map (λ c. G c.does) (clause n' calls') body (all_grow n' calls' g body))
@@ -267,15 +264,15 @@ module _ (n n' : ℕ) (le : n ≤ n') (calls calls' : Calls) (longer : CallsLong
     declare_call = λ kind name callee es. at_kind _ _ _ _ (does-DeclareCall n calls kind name callee es) (does-DeclareCall n' calls' kind name callee es) (declared_longer (begin_object kind name) (answered calls callee es) (answered calls' callee es) (answered_longer calls calls' longer g callee es) (answered_grows calls' g callee es));
     assign = λ target value. same_kind _ _ (does-Assign n calls target value) (does-Assign n' calls' target value);
     assign_call = λ target callee es. at_kind _ _ _ _ (does-AssignCall n calls target callee es) (does-AssignCall n' calls' target callee es) (assigned_longer target (answered calls callee es) (answered calls' callee es) (answered_longer calls calls' longer g callee es));
-    call = λ callee es. at_kind _ _ _ _ (does-Call n calls callee es) (does-Call n' calls' callee es) (after_longer (answer calls callee es) (answer calls' callee es) (λ v. give None) (answer_longer calls calls' longer g callee es) (λ v. grows_give {A = Option Flow} U None));
+    call = λ callee es. at_kind _ _ _ _ (does-Call n calls callee es) (does-Call n' calls' callee es) (after_longer (answer calls callee es) (answer calls' callee es) (λ v. give None) (answer_longer calls calls' longer g callee es) (λ v. grows_give {A = Option Flow} None));
     return = same_kind _ _ (does-Return n calls) (does-Return n' calls');
     return_value = λ value. same_kind _ _ (does-ReturnValue n calls value) (does-ReturnValue n' calls' value);
-    return_call = λ callee es. at_kind _ _ _ _ (does-ReturnCall n calls callee es) (does-ReturnCall n' calls' callee es) (after_longer (answered calls callee es) (answered calls' callee es) (λ v. give (Some (Returned (Some v)))) (answered_longer calls calls' longer g callee es) (λ v. grows_give {A = Option Flow} U (Some (Returned (Some v)))));
+    return_call = λ callee es. at_kind _ _ _ _ (does-ReturnCall n calls callee es) (does-ReturnCall n' calls' callee es) (after_longer (answered calls callee es) (answered calls' callee es) (λ v. give (Some (Returned (Some v)))) (answered_longer calls calls' longer g callee es) (λ v. grows_give {A = Option Flow} (Some (Returned (Some v)))));
     goto = λ label. same_kind _ _ (does-Goto n calls label) (does-Goto n' calls' label);
     label = λ name. same_kind _ _ (does-Label n calls name) (does-Label n' calls' name);
     block = λ body h. at_kind _ _ _ _ (does-Block n calls body) (does-Block n' calls' body) (blocks body h);
     while = λ test body h. at_kind _ _ _ _ (does-While n calls test body) (does-While n' calls' test body) (iterate_no_shorter n n' le (tested test) (tested test) (block (map (clause n calls) body)) (block (map (clause n' calls') body)) (same_self (tested test)) (blocks body h) (tested_grows test) (blocks_grow body));
-    «if» = λ test body h. at_kind _ _ _ _ (does-If n calls test body) (does-If n' calls' test body) (bind_no_shorter (tested test) (tested test) (choose (block (map (clause n calls) body)) (give None)) (choose (block (map (clause n' calls') body)) (give None)) (same_self (tested test)) (choose_longer (block (map (clause n calls) body)) (give None) (block (map (clause n' calls') body)) (give None) (blocks body h) (same_self (give None))) (choose_grows (block (map (clause n' calls') body)) (give None) (blocks_grow body) (grows_give {A = Option Flow} U None)));
+    «if» = λ test body h. at_kind _ _ _ _ (does-If n calls test body) (does-If n' calls' test body) (bind_no_shorter (tested test) (tested test) (choose (block (map (clause n calls) body)) (give None)) (choose (block (map (clause n' calls') body)) (give None)) (same_self (tested test)) (choose_longer (block (map (clause n calls) body)) (give None) (block (map (clause n' calls') body)) (give None) (blocks body h) (same_self (give None))) (choose_grows (block (map (clause n' calls') body)) (give None) (blocks_grow body) (grows_give {A = Option Flow} None)));
     if_else = λ test body other h k. at_kind _ _ _ _ (does-IfElse n calls test body other) (does-IfElse n' calls' test body other) (bind_no_shorter (tested test) (tested test) (choose (block (map (clause n calls) body)) (block (map (clause n calls) other))) (choose (block (map (clause n' calls') body)) (block (map (clause n' calls') other))) (same_self (tested test)) (choose_longer (block (map (clause n calls) body)) (block (map (clause n calls) other)) (block (map (clause n' calls') body)) (block (map (clause n' calls') other)) (blocks body h) (blocks other k)) (choose_grows (block (map (clause n' calls') body)) (block (map (clause n' calls') other)) (blocks_grow body) (blocks_grow other)));
   })
 
@@ -292,8 +289,8 @@ module _ (n n' : ℕ) (le : n ≤ n') (calls calls' : Calls) (longer : CallsLong
       (λ u. within (λ s. s) (λ before after. left after) (bind (statements n calls p.body) (λ flow. give (returned p.result flow))))
       (λ u. within (λ s. s) (λ before after. left after) (bind (statements n' calls' p.body) (λ flow. give (returned p.result flow))))
       (same_self (bind (look (entered (bound_all p.parameters vs (Some no_names)))) become))
-      (λ u. within_no_shorter (λ s. s) (λ before after. left after) (bind (statements n calls p.body) (λ flow. give (returned p.result flow))) (bind (statements n' calls' p.body) (λ flow. give (returned p.result flow))) (after_longer (statements n calls p.body) (statements n' calls' p.body) (λ flow. give (returned p.result flow)) (statements_longer p.body) (λ flow. grows_give U (returned p.result flow))))
-      (λ u. grows_within U (λ s. s) (λ before after. left after) (bind (statements n' calls' p.body) (λ flow. give (returned p.result flow))) (grows_bind U (statements n' calls' p.body) (λ flow. give (returned p.result flow)) (statements_grow n' calls' g p.body) (λ flow. grows_give U (returned p.result flow))))
+      (λ u. within_no_shorter (λ s. s) (λ before after. left after) (bind (statements n calls p.body) (λ flow. give (returned p.result flow))) (bind (statements n' calls' p.body) (λ flow. give (returned p.result flow))) (after_longer (statements n calls p.body) (statements n' calls' p.body) (λ flow. give (returned p.result flow)) (statements_longer p.body) (λ flow. grows_give (returned p.result flow))))
+      (λ u. grows_within (λ s. s) (λ before after. left after) (bind (statements n' calls' p.body) (λ flow. give (returned p.result flow))) (grows_bind (statements n' calls' p.body) (λ flow. give (returned p.result flow)) (statements_grow n' calls' g p.body) (λ flow. grows_give (returned p.result flow))))
 
 if_longer : (t : Bool) (a b b' : Act State (Option CValue)) → M b b' → M (cond t a b) (cond t a b')
 if_longer true a b b' h = same_self a
@@ -318,11 +315,11 @@ calls_longer files n n' (suc d) (suc d') file ln ld =
 
 main_longer : (files : List CFile) (n n' d d' : ℕ) → n ≤ n' → d ≤ d' → (o : Option Procedure) → M (run_main files n d o) (run_main files n' d' o)
 main_longer files n n' d d' ln ld None = same_self {A = ℕ} (wrong Undefined)
-main_longer files n n' d d' ln ld (Some p) = after_longer (statements n (calls_of files n d p.file) p.body) (statements n' (calls_of files n' d' p.file) p.body) (λ flow. give (status_of flow)) (statements_longer n n' ln (calls_of files n d p.file) (calls_of files n' d' p.file) (calls_longer files n n' d d' p.file ln ld) (calls_grow files n' d' p.file) p.body) (λ flow. grows_give U (status_of flow))
+main_longer files n n' d d' ln ld (Some p) = after_longer (statements n (calls_of files n d p.file) p.body) (statements n' (calls_of files n' d' p.file) p.body) (λ flow. give (status_of flow)) (statements_longer n n' ln (calls_of files n d p.file) (calls_of files n' d' p.file) (calls_longer files n n' d d' p.file ln ld) (calls_grow files n' d' p.file) p.body) (λ flow. grows_give (status_of flow))
 
 main_grows : (files : List CFile) (n d : ℕ) (o : Option Procedure) → G (run_main files n d o)
-main_grows files n d None = grows_wrong State ℕ U tt Undefined
-main_grows files n d (Some p) = grows_bind U (statements n (calls_of files n d p.file) p.body) (λ flow. give (status_of flow)) (statements_grow n (calls_of files n d p.file) (calls_grow files n d p.file) p.body) (λ flow. grows_give U (status_of flow))
+main_grows files n d None = grows_wrong State ℕ Undefined (λ w. tt)
+main_grows files n d (Some p) = grows_bind (statements n (calls_of files n d p.file) p.body) (λ flow. give (status_of flow)) (statements_grow n (calls_of files n d p.file) (calls_grow files n d p.file) p.body) (λ flow. grows_give (status_of flow))
 
 -- the law for whole programs
 pub meaning_monotone : (files : List CFile) (input : List ℕ) → IsMonotone (CMeaning files input)

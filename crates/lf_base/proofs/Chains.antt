@@ -4,18 +4,18 @@ use Rattle.lf_base.specs.declared.fault.PutFault.{PutFault}
 use Rattle.lf_base.specs.Causes.{HasCause}
 use Rattle.lf_base.specs.Contents.{AppendsPart, joined}
 use Rattle.lf_base.proofs.Printing.{appends_none, appends_more, part_first, part_more}
-use Rattle.lf_base.specs.Puts.{Step, Puts, Cause, Causes, AwaitsPuts}
+use Rattle.lf_base.specs.Puts.{Onward, Puts, Cause, Causes, AwaitsPuts}
 
-steps_none : (r : Result (Unit {0}) PutFault) (a : Option (List ℕ)) → Step r r a a (joined [])
+steps_none : (r : Result (Unit {0}) PutFault) (a : Option (List ℕ)) → Onward r r a a (joined [])
 steps_none (Ok u) a = appends_none a
 steps_none (Err e) a = (refl, refl)
 
-steps_more : (r s t : Result (Unit {0}) PutFault) (a b c : Option (List ℕ)) (p : List ℕ) (ps : List (List ℕ)) → Step r s a b p → Step s t b c (joined ps) → Step r t a c (joined (p ∷ ps))
+steps_more : (r s t : Result (Unit {0}) PutFault) (a b c : Option (List ℕ)) (p : List ℕ) (ps : List (List ℕ)) → Onward r s a b p → Onward s t b c (joined ps) → Onward r t a c (joined (p ∷ ps))
 steps_more (Ok u) (Ok v) (Ok w) a b c p ps h k = appends_more a b c p ps h k
 steps_more (Ok u) (Ok v) (Err e) a b c p ps h k = part_more a b c p ps h k
-steps_more (Ok u) (Err e) t a b c p ps h k = subst (λ x. Step (Ok u) x a c (joined (p ∷ ps))) (sym k.0) (subst (λ x. AppendsPart a x (joined (p ∷ ps))) (sym k.1) (part_first a b p ps h))
+steps_more (Ok u) (Err e) t a b c p ps h k = subst (λ x. Onward (Ok u) x a c (joined (p ∷ ps))) (sym k.0) (subst (λ x. AppendsPart a x (joined (p ∷ ps))) (sym k.1) (part_first a b p ps h))
 steps_more (Err e) s t a b c p ps h k =
-    let k' = subst (λ x. Step x t b c (joined ps)) h.0 k in
+    let k' = subst (λ x. Onward x t b c (joined ps)) h.0 k in
     (k'.0, k'.1 ∙ h.1)
 
 pub puts_none : (r : Result (Unit {0}) PutFault) (a : Option (List ℕ)) → Puts r r a a (joined [])

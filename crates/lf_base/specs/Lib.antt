@@ -1,8 +1,12 @@
 pub mod Acts
+pub mod Alike
 pub mod Calls
 pub mod Causes
 pub mod Contents
+pub mod Depth
+pub mod Equal
 pub mod Files
+pub mod Loops
 pub mod MemSink
 pub mod MemSource
 pub mod MemStore

@@ -4,14 +4,14 @@ use Rattle.lf_base.specs.declared.fault.PutFault.{PutFault}
 use Rattle.lf_base.specs.Causes.{HasCause}
 use Rattle.lf_base.specs.Contents.{Appends, AppendsPart, joined}
 
-abbrev pub Step : Result (Unit {0}) PutFault → Result (Unit {0}) PutFault → Option (List ℕ) → Option (List ℕ) → List ℕ → Type 0
-Step (Ok _) (Ok _) a b text = Appends a b text
-Step (Ok _) (Err _) a b text = AppendsPart a b text
-Step (Err e) s a b text = (s ≡ Err e) × (b ≡ a)
+abbrev pub Onward : Result (Unit {0}) PutFault → Result (Unit {0}) PutFault → Option (List ℕ) → Option (List ℕ) → List ℕ → Type 0
+Onward (Ok _) (Ok _) a b text = Appends a b text
+Onward (Ok _) (Err _) a b text = AppendsPart a b text
+Onward (Err e) s a b text = (s ≡ Err e) × (b ≡ a)
 
 -- From how the calls before ended to how this one did, the sink gained the text, or a front of it.
 pub record Puts (before after : Result (Unit {0}) PutFault) (old new : Option (List ℕ)) (text : List ℕ) : Type 0 where
-  pub step : Step before after old new text
+  pub step : Onward before after old new text
 
 abbrev pub Cause : Result (Unit {0}) PutFault → Result (Unit {0}) PutFault → ℕ → ℕ → Type 0
 Cause (Ok _) s m n = HasCause m n s

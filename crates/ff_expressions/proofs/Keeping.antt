@@ -18,8 +18,8 @@ use Rattle.ff_expressions.specs.declared.item.Part.TheVariants as part
 use Rattle.ff_expressions.specs.declared.item.Item.{Item}
 use Rattle.ff_expressions.specs.declared.item.Item.TheVariants as item
 use Rattle.ff_expressions.specs.declared.group.Arguments.{Arguments}
-use Rattle.ff_expressions.specs.declared.group.Place.{Place}
-use Rattle.ff_expressions.specs.declared.group.Place.TheVariants.{Argument, Element}
+use Rattle.ff_expressions.specs.declared.group.GroupRole.{GroupRole}
+use Rattle.ff_expressions.specs.declared.group.GroupRole.TheVariants.{Argument, Element}
 use Rattle.ff_expressions.specs.declared.level.Level.{Level}
 use Rattle.ff_expressions.specs.declared.level.Level.TheVariants.{Equivalence, Disjunction, Conjunction, Relation, Concatenation, Addition, Multiplication, Power}
 use Rattle.ff_expressions.specs.declared.sign.Sign.{Sign}
@@ -117,11 +117,11 @@ good_plain (part.Implied value) h = tt
 good_plain (part.Section lower upper step) h = tt
 good_plain (part.Keyed name value) h = tt
 
-good_value : (place : Place) (p : Part) → GoodPart p → Holds Counted (value_at place p)
+good_value : (place : GroupRole) (p : Part) → GoodPart p → Holds Counted (value_at place p)
 good_value Argument p h = good_argument p h
 good_value Element p h = good_element p h
 
-good_values : (place : Place) (parts : List Part) (before : Arguments) → GoodParts parts → CountedAll before → Holds CountedAll (values_behind place before parts)
+good_values : (place : GroupRole) (parts : List Part) (before : Arguments) → GoodParts parts → CountedAll before → Holds CountedAll (values_behind place before parts)
 good_values place [] before h c = c
 good_values place (p ∷ parts) before h c =
     holds_then Counted CountedAll (λ value. values_behind place (with_argument before value) parts) (value_at place p)

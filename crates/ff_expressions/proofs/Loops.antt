@@ -10,7 +10,7 @@ use Rattle.ff_expressions.specs.declared.item.Part.TheVariants as part
 use Rattle.ff_expressions.specs.declared.item.Item.{Item}
 use Rattle.ff_expressions.specs.declared.item.Item.TheVariants as item
 use Rattle.ff_expressions.specs.declared.group.Arguments.{Arguments}
-use Rattle.ff_expressions.specs.declared.group.Place.TheVariants.{Element}
+use Rattle.ff_expressions.specs.declared.group.GroupRole.TheVariants.{Element}
 use Rattle.ff_expressions.specs.Pieces.{ahead, each, there}
 use Rattle.ff_expressions.specs.Trees.{paren, no_arguments, with_argument, implied_do}
 use Rattle.ff_expressions.specs.Expressions.{plain, loop_with, loop_over, loop_behind, loop_of, is_several, is_loop, loop_alone, primary_of, power_of, term_of, sum_of, text_of, relation_of, negation_of, conjunction_of, disjunction_of, expression_of, output_of}

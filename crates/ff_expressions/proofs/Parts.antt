@@ -6,7 +6,7 @@ use Rattle.std.specs.Option.{option_map, option_and_then}
 use Rattle.ff_expressions.specs.declared.item.Parsed.{Parsed}
 use Rattle.ff_expressions.specs.declared.item.Mark.TheVariants as mark
 use Rattle.ff_expressions.specs.declared.item.Bracket.TheVariants.{Round}
-use Rattle.ff_expressions.specs.declared.item.Step.TheVariants.{Absent}
+use Rattle.ff_expressions.specs.declared.item.Stride.TheVariants.{Absent}
 use Rattle.ff_expressions.specs.declared.item.Part.{Part}
 use Rattle.ff_expressions.specs.declared.item.Part.TheVariants as part
 use Rattle.ff_expressions.specs.declared.item.Item.{Item}

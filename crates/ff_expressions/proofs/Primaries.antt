@@ -12,8 +12,8 @@ use Rattle.ff_expressions.specs.declared.item.Part.TheVariants as part
 use Rattle.ff_expressions.specs.declared.item.Item.{Item}
 use Rattle.ff_expressions.specs.declared.item.Item.TheVariants as item
 use Rattle.ff_expressions.specs.declared.group.Arguments.{Arguments}
-use Rattle.ff_expressions.specs.declared.group.Place.{Place}
-use Rattle.ff_expressions.specs.declared.group.Place.TheVariants.{Argument, Element}
+use Rattle.ff_expressions.specs.declared.group.GroupRole.{GroupRole}
+use Rattle.ff_expressions.specs.declared.group.GroupRole.TheVariants.{Argument, Element}
 use Rattle.ff_expressions.specs.Pieces.{there, mark_number}
 use Rattle.ff_expressions.specs.Trees.{paren, no_arguments, with_argument, array, nothing_named, with_name, with_group, as_expression}
 use Rattle.ff_expressions.specs.Expressions.{value_at, values_behind, values_of, arguments_of, plain, designator_behind, reference_of, paren_of, array_with, array_of, literal, literal_alone, is_name, primary_of}
@@ -21,7 +21,7 @@ use Rattle.ff_expressions.specs.Grammar.{IsValue, AreValues, IsDesignator, IsPri
 use Rattle.ff_expressions.proofs.Joined.{nowhere, inside, false_is_true, follows, maps, Below, below_both}
 
 -- the values of a group
-value_is : (place : Place) (one : Part) (value : Parsed) → value_at place one ≡ Some value → IsValue place one value
+value_is : (place : GroupRole) (one : Part) (value : Parsed) → value_at place one ≡ Some value → IsValue place one value
 value_is Argument (part.Plain v) value h = subst (λ t. IsValue Argument (part.Plain v) t) (inside v value h) IsValue.argument
 value_is Argument (part.Section lower upper stride) value h = subst (λ t. IsValue Argument (part.Section lower upper stride) t) (inside _ value h) IsValue.section
 value_is Argument part.Star value h = nowhere value h
@@ -33,30 +33,30 @@ value_is Element part.Star value h = nowhere value h
 value_is Element (part.Section lower upper stride) value h = nowhere value h
 value_is Element (part.Keyed name v) value h = nowhere value h
 
-only_value : {place : Place} {one : Part} {value : Parsed} → IsValue place one value → value_at place one ≡ Some value
+only_value : {place : GroupRole} {one : Part} {value : Parsed} → IsValue place one value → value_at place one ≡ Some value
 only_value IsValue.argument = refl
 only_value IsValue.section = refl
 only_value IsValue.element = refl
 only_value IsValue.implied = refl
 
-values_from : (place : Place) (front parts : List Part) (before values : Arguments) → AreValues place front before → values_behind place before parts ≡ Some values → AreValues place (front ++ parts) values
+values_from : (place : GroupRole) (front parts : List Part) (before values : Arguments) → AreValues place front before → values_behind place before parts ≡ Some values → AreValues place (front ++ parts) values
 values_from place front [] before values p h = subst (λ v. AreValues place (front ++ []) v) (inside before values h) (subst (λ ps. AreValues place ps before) (sym (append-nil front)) p)
 values_from place front (one ∷ parts) before values p h =
     follows (value_at place one) (λ value. values_behind place (with_argument before value) parts) values h (λ value e k.
     subst (λ ps. AreValues place ps values) (append_assoc front (one ∷ []) parts)
     (values_from place (front ++ one ∷ []) parts (with_argument before value) values (AreValues.one_more p (value_is place one value e)) k))
 
-pub values_are : (place : Place) (parts : List Part) (values : Arguments) → values_of place parts ≡ Some values → AreValues place parts values
+pub values_are : (place : GroupRole) (parts : List Part) (values : Arguments) → values_of place parts ≡ Some values → AreValues place parts values
 values_are place parts values h = values_from place [] parts no_arguments values AreValues.none h
 
-values_then : (place : Place) (parts : List Part) (values : Arguments) (more : List Part) → AreValues place parts values → values_behind place no_arguments (parts ++ more) ≡ values_behind place values more
+values_then : (place : GroupRole) (parts : List Part) (values : Arguments) (more : List Part) → AreValues place parts values → values_behind place no_arguments (parts ++ more) ≡ values_behind place values more
 values_then place parts values more AreValues.none = refl
 values_then place parts values more (AreValues.one_more {parts = front} {before = before} {last = last} {value = value} p q) =
     ap (λ ps. values_behind place no_arguments ps) (append_assoc front (last ∷ []) more)
     ∙ values_then place front before (last ∷ more) p
     ∙ ap (λ o. option_and_then (λ v. values_behind place (with_argument before v) more) o) (only_value q)
 
-pub only_values : (place : Place) (parts : List Part) (values : Arguments) → AreValues place parts values → values_of place parts ≡ Some values
+pub only_values : (place : GroupRole) (parts : List Part) (values : Arguments) → AreValues place parts values → values_of place parts ≡ Some values
 only_values place parts values p = ap (λ ps. values_behind place no_arguments ps) (sym (append-nil parts)) ∙ values_then place parts values [] p
 
 -- a name that is due, or a designator that may go on

@@ -14,8 +14,8 @@ use Rattle.ff_expressions.specs.declared.item.Part.TheVariants as part
 use Rattle.ff_expressions.specs.declared.item.Item.{Item}
 use Rattle.ff_expressions.specs.declared.item.Item.TheVariants as item
 use Rattle.ff_expressions.specs.declared.group.Arguments.{Arguments}
-use Rattle.ff_expressions.specs.declared.group.Place.{Place}
-use Rattle.ff_expressions.specs.declared.group.Place.TheVariants.{Argument, Element}
+use Rattle.ff_expressions.specs.declared.group.GroupRole.{GroupRole}
+use Rattle.ff_expressions.specs.declared.group.GroupRole.TheVariants.{Argument, Element}
 use Rattle.ff_expressions.specs.declared.level.Level.{Level}
 use Rattle.ff_expressions.specs.declared.level.Level.TheVariants.{Equivalence, Disjunction, Conjunction, Relation, Concatenation, Addition, Multiplication, Power}
 use Rattle.ff_expressions.specs.Pieces.{mark_number, there, stands, each}
@@ -32,16 +32,16 @@ element (part.Plain value) = Some value
 element (part.Implied value) = Some value
 element _ = None
 
-abbrev pub value_at : Place → Part → Option Parsed
+abbrev pub value_at : GroupRole → Part → Option Parsed
 value_at Argument = argument
 value_at Element = element
 
 -- the values of parts, behind those that have been read
-abbrev pub values_behind : Place → Arguments → List Part → Option Arguments
+abbrev pub values_behind : GroupRole → Arguments → List Part → Option Arguments
 values_behind place before [] = Some before
 values_behind place before (part ∷ parts) = option_and_then (λ value. values_behind place (with_argument before value) parts) (value_at place part)
 
-abbrev pub values_of : Place → List Part → Option Arguments
+abbrev pub values_of : GroupRole → List Part → Option Arguments
 values_of place parts = values_behind place no_arguments parts
 
 abbrev pub arguments_of : List Part → Option Arguments

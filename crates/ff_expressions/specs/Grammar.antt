@@ -8,26 +8,26 @@ use Rattle.ff_expressions.specs.declared.item.Mark.TheVariants.{Operator, Percen
 use Rattle.ff_expressions.specs.declared.item.Bracket.TheVariants.{Round, Square}
 use Rattle.ff_expressions.specs.declared.item.Part.{Part}
 use Rattle.ff_expressions.specs.declared.item.Part.TheVariants as part
-use Rattle.ff_expressions.specs.declared.item.Step.{Step}
+use Rattle.ff_expressions.specs.declared.item.Stride.{Stride}
 use Rattle.ff_expressions.specs.declared.item.Item.{Item}
 use Rattle.ff_expressions.specs.declared.item.Item.TheVariants as item
 use Rattle.ff_expressions.specs.declared.group.Arguments.{Arguments}
-use Rattle.ff_expressions.specs.declared.group.Place.{Place}
-use Rattle.ff_expressions.specs.declared.group.Place.TheVariants.{Argument, Element}
+use Rattle.ff_expressions.specs.declared.group.GroupRole.{GroupRole}
+use Rattle.ff_expressions.specs.declared.group.GroupRole.TheVariants.{Argument, Element}
 use Rattle.ff_expressions.specs.declared.level.Level.{Level}
 use Rattle.ff_expressions.specs.declared.level.Level.TheVariants as level
 use Rattle.ff_expressions.specs.Trees.{leaf, unary, binary, paren, value_of, triple, no_arguments, with_argument, array, nothing_named, with_name, with_group, as_expression}
 
 -- What may stand between the commas of a group: an expression or a section in arguments (R1524, R920), an expression or an implied do in
 -- an array constructor (R773).
-pub data IsValue : Place → Part → Parsed → Type 0 where
+pub data IsValue : GroupRole → Part → Parsed → Type 0 where
   argument : {value : Parsed} → IsValue Argument (part.Plain value) value
-  section : {lower upper : Option Parsed} {step : Step} → IsValue Argument (part.Section lower upper step) (triple lower upper (value_of step))
+  section : {lower upper : Option Parsed} {step : Stride} → IsValue Argument (part.Section lower upper step) (triple lower upper (value_of step))
   element : {value : Parsed} → IsValue Element (part.Plain value) value
   implied : {value : Parsed} → IsValue Element (part.Implied value) value
 
 -- all that stands in the group, from left to right
-pub data AreValues (place : Place) : List Part → Arguments → Type 0 where
+pub data AreValues (place : GroupRole) : List Part → Arguments → Type 0 where
   none : AreValues place [] no_arguments
   one_more : {parts : List Part} {before : Arguments} {last : Part} {value : Parsed} → AreValues place parts before → IsValue place last value
       → AreValues place (parts ++ last ∷ []) (with_argument before value)

@@ -9,8 +9,8 @@ use Rattle.ff_expressions.specs.declared.item.Parsed.{Parsed}
 use Rattle.ff_expressions.specs.declared.item.Mark.TheVariants.{Operator, Comma, Colon, Equals}
 use Rattle.ff_expressions.specs.declared.item.Bracket.{Bracket}
 use Rattle.ff_expressions.specs.declared.item.Bracket.TheVariants.{Round, Square}
-use Rattle.ff_expressions.specs.declared.item.Step.{Step}
-use Rattle.ff_expressions.specs.declared.item.Step.TheVariants.{Absent, Missing, Given}
+use Rattle.ff_expressions.specs.declared.item.Stride.{Stride}
+use Rattle.ff_expressions.specs.declared.item.Stride.TheVariants.{Absent, Missing, Given}
 use Rattle.ff_expressions.specs.declared.item.Part.{Part}
 use Rattle.ff_expressions.specs.declared.item.Part.TheVariants as part
 use Rattle.ff_expressions.specs.declared.item.Item.{Item}
@@ -47,7 +47,7 @@ keyed_of (first ∷ items) = keyed_by first items
 abbrev pub bound_of : List Item → Option (Option Parsed)
 bound_of items = if length items == 0 then Some None else option_map Some (expression_of items)
 
-abbrev pub step_of : Option Parsed → Step
+abbrev pub step_of : Option Parsed → Stride
 step_of None = Missing
 step_of (Some value) = Given value
 

@@ -6,11 +6,11 @@ use Rattle.ff_expressions.specs.declared.item.Mark.TheVariants.{Operator, Comma,
 use Rattle.ff_expressions.specs.declared.item.Bracket.TheVariants.{Round}
 use Rattle.ff_expressions.specs.declared.item.Part.{Part}
 use Rattle.ff_expressions.specs.declared.item.Part.TheVariants as part
-use Rattle.ff_expressions.specs.declared.item.Step.TheVariants.{Absent}
+use Rattle.ff_expressions.specs.declared.item.Stride.TheVariants.{Absent}
 use Rattle.ff_expressions.specs.declared.item.Item.{Item}
 use Rattle.ff_expressions.specs.declared.item.Item.TheVariants as item
 use Rattle.ff_expressions.specs.declared.group.Arguments.{Arguments}
-use Rattle.ff_expressions.specs.declared.group.Place.TheVariants.{Element}
+use Rattle.ff_expressions.specs.declared.group.GroupRole.TheVariants.{Element}
 use Rattle.ff_expressions.specs.Trees.{with_argument, implied_do}
 use Rattle.ff_expressions.specs.Items.{step_of}
 use Rattle.ff_expressions.specs.Grammar.{IsValue, AreValues, IsExpression}

@@ -7,8 +7,8 @@ use Rattle.ast_nodes.specs.declared.expression.RefPart.{RefPart}
 use Rattle.ast_nodes.specs.declared.expression.RefPart.TheVariants.{Part, Group}
 use Rattle.ff_expressions.specs.declared.item.Parsed.{Parsed}
 use Rattle.ff_expressions.specs.declared.item.Reference.{Reference}
-use Rattle.ff_expressions.specs.declared.item.Step.{Step}
-use Rattle.ff_expressions.specs.declared.item.Step.TheVariants.{Absent, Missing, Given}
+use Rattle.ff_expressions.specs.declared.item.Stride.{Stride}
+use Rattle.ff_expressions.specs.declared.item.Stride.TheVariants.{Absent, Missing, Given}
 use Rattle.ff_expressions.specs.declared.group.Arguments.{Arguments}
 
 -- the greatest depth, and the one that stands for every depth above it
@@ -46,7 +46,7 @@ abbrev pub tree_in : Option Parsed → Option Expr
 tree_in None = None
 tree_in (Some value) = Some value.tree
 
-abbrev pub value_of : Step → Option Parsed
+abbrev pub value_of : Stride → Option Parsed
 value_of Absent = None
 value_of Missing = None
 value_of (Given value) = Some value

@@ -1,7 +1,7 @@
 ghost use Rattle.std.specs.Prelude.{◌≡◌, IfOk};
 ghost use Rattle.ff_expressions.specs.Expressions.{arguments_of};
 
-use crate::group::{Arguments, Place, values};
+use crate::group::{Arguments, GroupRole, values};
 use crate::item::Part;
 use crate::queue::Queue;
 use lf_base::Memory;
@@ -12,5 +12,5 @@ use std::alloc::Global;
 pub fn arguments(alloc: Global, parts: Queue<Part>) -> Result<Option<Arguments>, Memory>
     ensures { IfOk result (λ r. r ≡ arguments_of parts) }
 {
-    values(alloc, Place::Argument, parts)
+    values(alloc, GroupRole::Argument, parts)
 }

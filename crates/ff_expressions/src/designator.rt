@@ -2,7 +2,7 @@ ghost use Rattle.std.specs.Prelude.{◌≡◌, [], IfOk};
 ghost use Rattle.ff_expressions.specs.Trees.{no_designator, nothing_named, with_part, with_name, with_group, as_expression};
 ghost use Rattle.ff_expressions.specs.Expressions.{with_due_name, group_behind, with_more, with_link, whole, designator_behind, reference_of};
 
-use crate::group::{Arguments, Place, values};
+use crate::group::{Arguments, GroupRole, values};
 use crate::item::{Bracket, GREATEST_DEPTH, Item, Mark, Parsed, Part, Reference};
 use crate::piece::is_same;
 use crate::queue::Queue;
@@ -49,13 +49,11 @@ fn with_part(
         return Ok(without_parts(alloc, GREATEST_DEPTH + 1));
     }
     let Designator { mut parts } = designator;
-    match parts.push(part) {
-        Ok(()) => Ok(Reference {
-            designator: Designator { parts },
-            depth: depth.max(deepest + 2),
-        }),
-        Err(_) => Err(Memory),
-    }
+    parts.push(part)?;
+    Ok(Reference {
+        designator: Designator { parts },
+        depth: depth.max(deepest + 2),
+    })
 }
 
 /// A designator as an expression.
@@ -108,7 +106,7 @@ fn group_behind(
 {
     match bracket {
         Bracket::Square => Ok(None),
-        Bracket::Round => match values(alloc, Place::Argument, parts)? {
+        Bracket::Round => match values(alloc, GroupRole::Argument, parts)? {
             Some(group) => Ok(Some((false, with_group(alloc, before, group)?))),
             None => Ok(None),
         },

@@ -45,16 +45,14 @@ impl Arguments {
     {
         let Arguments { mut list, depth } = self;
         let depth = depth.max(value.depth);
-        match list.push(value.tree) {
-            Ok(()) => Ok(Arguments { list, depth }),
-            Err(_) => Err(Memory),
-        }
+        list.push(value.tree)?;
+        Ok(Arguments { list, depth })
     }
 }
 
 /// Where the parts of a group stand.
 #[derive(Clone, Copy)]
-pub enum Place {
+pub enum GroupRole {
     /// In parentheses behind a name: expressions and triplets.
     Argument,
     /// In an array constructor or an implied do: expressions and implied dos.
@@ -83,26 +81,26 @@ fn element(part: Part) -> Option<Parsed>
     }
 }
 
-fn value_at(alloc: Global, place: Place, part: Part) -> Result<Option<Parsed>, Memory>
-    ensures { IfOk result (λ r. r ≡ value_at place part) }
+fn value_at(alloc: Global, role: GroupRole, part: Part) -> Result<Option<Parsed>, Memory>
+    ensures { IfOk result (λ r. r ≡ value_at role part) }
 {
-    match place {
-        Place::Argument => argument(alloc, part),
-        Place::Element => Ok(element(part)),
+    match role {
+        GroupRole::Argument => argument(alloc, part),
+        GroupRole::Element => Ok(element(part)),
     }
 }
 
 /// The values of all parts, where each has one in this place.
 pub fn values(
     alloc: Global,
-    place: Place,
+    role: GroupRole,
     mut parts: Queue<Part>,
 ) -> Result<Option<Arguments>, Memory>
-    ensures { IfOk result (λ r. r ≡ values_of place parts) }
+    ensures { IfOk result (λ r. r ≡ values_of role parts) }
 {
     let mut values = Arguments::with_capacity(alloc, parts.len())?;
     while let Some(part) = parts.take() {
-        match value_at(alloc, place, part)? {
+        match value_at(alloc, role, part)? {
             Some(value) => values = values.with(value)?,
             None => return Ok(None),
         }

@@ -51,7 +51,7 @@ pub enum Bracket {
 
 /// What stands behind the upper bound of a triplet.
 #[derive(Drop)]
-pub enum Step {
+pub enum Stride {
     /// No second colon.
     Absent,
     /// A second colon alone.
@@ -77,7 +77,7 @@ pub enum Part {
     Section {
         lower: Option<Parsed>,
         upper: Option<Parsed>,
-        step: Step,
+        step: Stride,
     },
     /// `name = value`, where no value stands for `*`.
     Keyed {

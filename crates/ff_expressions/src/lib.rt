@@ -21,7 +21,7 @@ mod tree;
 pub use argument::arguments;
 pub use designator::reference;
 pub use group::Arguments;
-pub use item::{Bracket, GREATEST_DEPTH, Item, Mark, Parsed, Part, Reference, Step};
+pub use item::{Bracket, GREATEST_DEPTH, Item, Mark, Parsed, Part, Reference, Stride};
 pub use operators::expression;
 pub use part::output;
 pub use piece::pieces;

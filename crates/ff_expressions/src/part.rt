@@ -4,7 +4,7 @@ ghost use Rattle.ff_expressions.specs.Pieces.{there, each};
 ghost use Rattle.ff_expressions.specs.Expressions.{has_several, is_several, is_loop, loop_in, loop_alone, expression_of, output_of};
 ghost use Rattle.ff_expressions.specs.Items.{is_star, is_keyed, keyed_with, keyed_by, keyed_of, bound_of, step_of, section_with, section_of, value_part, part_of, parts_of};
 
-use crate::item::{Bracket, Item, Mark, Parsed, Part, Step};
+use crate::item::{Bracket, Item, Mark, Parsed, Part, Stride};
 use crate::operators::{expression, pass};
 use crate::piece::{has_colon, pieces, single_colons, stands};
 use crate::primary::loop_of;
@@ -165,12 +165,12 @@ fn bounds(
     Ok(Some(done))
 }
 
-fn step_of(step: Option<Parsed>) -> Step
+fn step_of(step: Option<Parsed>) -> Stride
     ensures { result ≡ step_of step }
 {
     match step {
-        Some(value) => Step::Given { value },
-        None => Step::Missing,
+        Some(value) => Stride::Given { value },
+        None => Stride::Missing,
     }
 }
 
@@ -183,7 +183,7 @@ fn section_with(mut bounds: Queue<Option<Parsed>>) -> Option<Part>
         return Some(Part::Section {
             lower,
             upper,
-            step: Step::Absent,
+            step: Stride::Absent,
         });
     };
     if bounds.len() > 0 {

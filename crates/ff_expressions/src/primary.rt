@@ -5,7 +5,7 @@ ghost use Rattle.ff_expressions.specs.Pieces.{there};
 ghost use Rattle.ff_expressions.specs.Trees.{paren, as_expression};
 
 use crate::designator::{as_expression, reference};
-use crate::group::{Arguments, Place, plains, values};
+use crate::group::{Arguments, GroupRole, plains, values};
 use crate::item::{Bracket, Item, Parsed, Part};
 use crate::queue::Queue;
 use crate::tree::{array, implied_do, leaf, paren};
@@ -93,7 +93,7 @@ fn paren_in(alloc: Global, part: Part) -> Result<Option<Parsed>, Memory>
 fn array_of(alloc: Global, parts: Queue<Part>) -> Result<Option<Parsed>, Memory>
     ensures { IfOk result (λ r. r ≡ array_of parts) }
 {
-    match values(alloc, Place::Element, parts)? {
+    match values(alloc, GroupRole::Element, parts)? {
         Some(items) => Ok(array_with(alloc, items)),
         None => Ok(None),
     }

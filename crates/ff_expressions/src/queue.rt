@@ -37,10 +37,9 @@ impl<T> Queue<T> {
     pub fn with_capacity(alloc: Global, capacity: usize) -> Result<Queue<T>, Memory>
         ensures { IfOk result (λ queue. queue ≡ []) }
     {
-        match VecDeque::with_capacity(alloc, capacity) {
-            Ok(items) => Ok(Queue { items }),
-            Err(_) => Err(Memory),
-        }
+        Ok(Queue {
+            items: VecDeque::with_capacity(alloc, capacity)?,
+        })
     }
 
     /// How many items there are.
@@ -70,19 +69,15 @@ impl<T: Drop> Queue<T> {
     pub fn push(&mut self, item: T) -> Result<(), Memory>
         ensures { OnOk result (self.new ≡ self.old ++ item ∷ []) }
     {
-        match self.items.push_back(item) {
-            Ok(()) => Ok(()),
-            Err(_) => Err(Memory),
-        }
+        self.items.push_back(item)?;
+        Ok(())
     }
 
     /// Adds an item in front.
     pub fn put_first(&mut self, item: T) -> Result<(), Memory>
         ensures { OnOk result (self.new ≡ item ∷ self.old) }
     {
-        match self.items.push_front(item) {
-            Ok(()) => Ok(()),
-            Err(_) => Err(Memory),
-        }
+        self.items.push_front(item)?;
+        Ok(())
     }
 }

@@ -8,10 +8,8 @@ use std::alloc::Global;
 fn push(items: &mut Items<u8>, byte: u8) -> Result<(), Memory>
     ensures { OnOk result (items.new ≡ items.old ++ byte ∷ []) }
 {
-    match items.push(byte) {
-        Ok(()) => Ok(()),
-        Err(_) => Err(Memory),
-    }
+    items.push(byte)?;
+    Ok(())
 }
 
 /// The digits of an integer literal.

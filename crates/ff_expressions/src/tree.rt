@@ -2,7 +2,7 @@ ghost use Rattle.std.specs.Prelude.{◌≡◌, [], None, Some, IfOk};
 ghost use Rattle.ff_expressions.specs.Trees.{stub, leaf, node, unary, binary, paren, depth_in, tree_in, value_of, triple, array, implied_do};
 
 use crate::group::Arguments;
-use crate::item::{GREATEST_DEPTH, Parsed, Step};
+use crate::item::{GREATEST_DEPTH, Parsed, Stride};
 use ast_nodes::Expr;
 use lf_base::{Memory, Name};
 use sqlite_items::{Boxed, Items};
@@ -32,10 +32,7 @@ pub fn leaf(tree: Expr) -> Parsed
 pub fn with_capacity<T>(alloc: Global, capacity: usize) -> Result<Items<T>, Memory>
     ensures { IfOk result (λ items. items ≡ []) }
 {
-    match Vec::with_capacity(alloc, capacity) {
-        Ok(items) => Ok(Items::from_vec(items)),
-        Err(_) => Err(Memory),
-    }
+    Ok(Items::from_vec(Vec::with_capacity(alloc, capacity)?))
 }
 
 // A node whose deepest part has this depth.
@@ -54,10 +51,7 @@ fn node(alloc: Global, deepest: u32, tree: Expr) -> Parsed
 fn boxed(alloc: Global, tree: Expr) -> Result<Boxed<Expr>, Memory>
     ensures { IfOk result (λ b. b ≡ tree) }
 {
-    match Boxed::new(alloc, tree) {
-        Ok(tree) => Ok(tree),
-        Err(_) => Err(Memory),
-    }
+    Ok(Boxed::new(alloc, tree)?)
 }
 
 fn boxed_in(alloc: Global, value: Option<Parsed>) -> Result<Option<Boxed<Expr>>, Memory>
@@ -112,12 +106,12 @@ pub fn paren(alloc: Global, inner: Parsed) -> Result<Parsed, Memory>
 }
 
 /// What stands behind the second colon.
-pub fn value_of(step: Step) -> Option<Parsed>
+pub fn value_of(step: Stride) -> Option<Parsed>
     ensures { result ≡ value_of step }
 {
     match step {
-        Step::Absent | Step::Missing => None,
-        Step::Given { value } => Some(value),
+        Stride::Absent | Stride::Missing => None,
+        Stride::Given { value } => Some(value),
     }
 }
 

@@ -14,7 +14,7 @@ use Rattle.ff_expressions.specs.declared.item.Item.TheVariants.{Word, Mark, Grou
 use Rattle.ff_expressions.specs.declared.item.Mark.TheVariants as mark
 use Rattle.ff_expressions.specs.declared.item.Part.{Part}
 use Rattle.ff_expressions.specs.declared.item.Part.TheVariants.{Star, Plain, Keyed, Section}
-use Rattle.ff_expressions.specs.declared.item.Step.TheVariants.{Absent}
+use Rattle.ff_expressions.specs.declared.item.Stride.TheVariants.{Absent}
 use Rattle.ff_forms.specs.Answers.{on, Read, all, each, with_first}
 use Rattle.ff_forms.specs.Shapes.{is, nothing, something, only_one, first_of, word_first, only_word, behind_arrow, behind_equals, group_first, only_group, is_group}
 use Rattle.ff_forms.specs.Names.{rename_of, renamed, only_item, only_behind}

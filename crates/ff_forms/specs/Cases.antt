@@ -25,7 +25,7 @@ use Rattle.ff_expressions.specs.declared.item.Mark.TheVariants.{Operator, Comma,
 use Rattle.ff_expressions.specs.declared.item.Parsed.{Parsed}
 use Rattle.ff_expressions.specs.declared.item.Part.{Part}
 use Rattle.ff_expressions.specs.declared.item.Part.TheVariants.{Star, Plain, Keyed, Section}
-use Rattle.ff_expressions.specs.declared.item.Step.TheVariants.{Absent}
+use Rattle.ff_expressions.specs.declared.item.Stride.TheVariants.{Absent}
 use Rattle.ff_expressions.specs.Items.{items_of}
 use Rattle.ff_expressions.specs.Pieces.{is_mark, pieces_of}
 use Rattle.ff_forms.specs.declared.form.End.{End}

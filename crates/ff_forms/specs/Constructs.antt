@@ -8,7 +8,7 @@ use Rattle.ff_expressions.specs.declared.item.Mark.TheVariants.{Comma}
 use Rattle.ff_expressions.specs.declared.item.Parsed.{Parsed}
 use Rattle.ff_expressions.specs.declared.item.Part.{Part}
 use Rattle.ff_expressions.specs.declared.item.Part.TheVariants.{Plain, Section}
-use Rattle.ff_expressions.specs.declared.item.Step.TheVariants.{Absent}
+use Rattle.ff_expressions.specs.declared.item.Stride.TheVariants.{Absent}
 use Rattle.ff_expressions.specs.Pieces.{pieces_of}
 use Rattle.ff_forms.specs.declared.form.End.{End}
 use Rattle.ff_forms.specs.declared.form.End.TheVariants as ended

@@ -15,7 +15,7 @@ use Rattle.ff_expressions.specs.declared.item.Item.{Item}
 use Rattle.ff_expressions.specs.declared.item.Parsed.{Parsed}
 use Rattle.ff_expressions.specs.declared.item.Part.{Part}
 use Rattle.ff_expressions.specs.declared.item.Part.TheVariants.{Star, Plain, Keyed, Section}
-use Rattle.ff_expressions.specs.declared.item.Step.TheVariants.{Absent}
+use Rattle.ff_expressions.specs.declared.item.Stride.TheVariants.{Absent}
 use Rattle.ff_forms.specs.Answers.{on, Read, each}
 use Rattle.ff_forms.specs.Shapes.{is, nothing, something, only_one, word_first, group_first, only_group, is_group, one_name}
 

@@ -9,7 +9,7 @@ use crate::shape::{
     one_expression, only_group, pieces_at, refused, something, word, word_first,
 };
 use ast_nodes::{CaseRange, Expr};
-use ff_expressions::{Item, Mark, Parsed, Part, Queue, Step};
+use ff_expressions::{Item, Mark, Parsed, Part, Queue, Stride};
 use lf_base::Name;
 use sqlite_items::{Boxed, Items};
 use std::alloc::Global;
@@ -283,7 +283,7 @@ fn range(part: Part) -> Result<(CaseRange, u32), Refusal>
         Part::Section {
             lower,
             upper,
-            step: Step::Absent,
+            step: Stride::Absent,
         } => section_range(lower, upper),
         other => Err(refused(other)),
     }

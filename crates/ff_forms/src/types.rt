@@ -8,7 +8,7 @@ use crate::shape::{
     word_first,
 };
 use ast_nodes::{Attribute, Bound, Expr, Length, TypeSpec, code};
-use ff_expressions::{Item, Parsed, Part, Queue, Step};
+use ff_expressions::{Item, Parsed, Part, Queue, Stride};
 use lf_base::Name;
 use sqlite_items::{Boxed, Items};
 use std::alloc::Global;
@@ -207,7 +207,7 @@ fn bound(part: Part) -> Result<(Bound, u32), Refusal>
         Part::Section {
             lower,
             upper,
-            step: Step::Absent,
+            step: Stride::Absent,
         } => section_bound(lower, upper),
         other => Err(refused(other)),
     }

@@ -9,7 +9,7 @@ use Rattle.ff_lexer.specs.declared.lexeme.Placed.{Placed}
 use Rattle.ff_lexer.specs.Bytes.{behind}
 use Rattle.ff_lexer.specs.Lines.{Draft, fresh, begins, added, is_end, Taken, earlier, in_body}
 use Rattle.ff_lexer.specs.Statements.{byte_of}
-use Rattle.ff_lexer.specs.Written.{behind_all, ends_statement, NoneEnds, EndsAt, Piece, AreSplit, body_with, longer, statements_with, HasStatements}
+use Rattle.ff_lexer.specs.Written.{behind_all, ends_statement, NoneEnds, EndsAt, Segment, AreSplit, body_with, longer, statements_with, HasStatements}
 
 or_false : (a : Bool) → (a || false) ≡ a
 or_false true = refl
@@ -39,7 +39,7 @@ piece_found line d (b ∷ bs) end rest h =
     ∙ piece_found line (added d b) bs end rest h.1
     ∙ ap (λ o. earlier o (in_body line (fresh line) rest)) (one_longer d b bs)
 
-found : (line : ℕ) (d : Draft) (pieces : List Piece) (last : List Placed) → AreSplit d.context d.has_begun pieces last → in_body line d (body_with pieces last) ≡ statements_with line d pieces last
+found : (line : ℕ) (d : Draft) (pieces : List Segment) (last : List Placed) → AreSplit d.context d.has_begun pieces last → in_body line d (body_with pieces last) ≡ statements_with line d pieces last
 found line d [] last h = none_found line d last h
 found line d (piece ∷ pieces) last h =
     piece_found line d piece.0 piece.1 (body_with pieces last) h.0
@@ -51,12 +51,12 @@ only_statements line d body statements h = h.statements_are ∙ sym (found line 
 -- each body is split so
 
 record Splits (context : Context) (has_begun : Bool) (body : List Placed) : Type 0 where
-  pub pieces : List Piece
+  pub pieces : List Segment
   pub last : List Placed
   pub are_split : AreSplit context has_begun pieces last
   pub body_is : body ≡ body_with pieces last
 
-more_split : (context : Context) (has_begun : Bool) (b : Placed) (bs : List Placed) → ends_statement context has_begun b.byte ≡ false → (pieces : List Piece) (last : List Placed) → AreSplit (behind context b.byte) (has_begun || begins b.byte) pieces last → bs ≡ body_with pieces last → Splits context has_begun (b ∷ bs)
+more_split : (context : Context) (has_begun : Bool) (b : Placed) (bs : List Placed) → ends_statement context has_begun b.byte ≡ false → (pieces : List Segment) (last : List Placed) → AreSplit (behind context b.byte) (has_begun || begins b.byte) pieces last → bs ≡ body_with pieces last → Splits context has_begun (b ∷ bs)
 more_split context has_begun b bs e [] last h k = record { pieces = []; last = b ∷ last; are_split = (e, h); body_is = ap (λ l. b ∷ l) k }
 more_split context has_begun b bs e (piece ∷ pieces) last h k =
     record { pieces = (b ∷ piece.0, piece.1) ∷ pieces; last = last; are_split = ((e, h.0), h.1); body_is = ap (λ l. b ∷ l) k }

@@ -126,16 +126,16 @@ EndsAt context has_begun [] byte = ends_statement context has_begun byte ≡ tru
 EndsAt context has_begun (b ∷ bs) byte = (ends_statement context has_begun b.byte ≡ false) × EndsAt (behind context b.byte) (has_begun || begins b.byte) bs byte
 
 -- the bytes of a statement, and the `;` that ends it
-abbrev pub Piece : Type 0
-Piece = List Placed × Placed
+abbrev pub Segment : Type 0
+Segment = List Placed × Placed
 
 -- The first piece goes on with a statement of which this is known, and the others begin one.
-abbrev pub AreSplit : Context → Bool → List Piece → List Placed → Type 0
+abbrev pub AreSplit : Context → Bool → List Segment → List Placed → Type 0
 AreSplit context has_begun [] last = NoneEnds context has_begun last
 AreSplit context has_begun (piece ∷ pieces) last = EndsAt context has_begun piece.0 piece.1.byte × AreSplit Code false pieces last
 
 -- the body that the pieces make, and what the last `;` stands in front of
-abbrev pub body_with : List Piece → List Placed → List Placed
+abbrev pub body_with : List Segment → List Placed → List Placed
 body_with [] last = last
 body_with (piece ∷ pieces) last = piece.0 ++ piece.1 ∷ body_with pieces last
 
@@ -152,13 +152,13 @@ longer d bytes =
     }
 
 -- the statements of which these are the bytes, the open one and others that begin on this line
-abbrev pub statements_with : ℕ → Draft → List Piece → List Placed → Taken
+abbrev pub statements_with : ℕ → Draft → List Segment → List Placed → Taken
 statements_with line d [] last = ([], longer d last)
 statements_with line d (piece ∷ pieces) last = earlier (longer d piece.0) (statements_with line (fresh line) pieces last)
 
 -- Behind an open statement the body of this line has these statements.
 pub record HasStatements (line : ℕ) (open_one : Draft) (body : List Placed) (statements : Taken) : Type 0 where
-  pub pieces : List Piece
+  pub pieces : List Segment
   pub last : List Placed
   pub are_split : AreSplit open_one.context open_one.has_begun pieces last
   pub body_is : body ≡ body_with pieces last

@@ -185,16 +185,12 @@ impl Reader {
         ensures memory { IfErr result (λ e. e ≡ LexFault.Memory) }
         ensures line { self.new.line ≡ self.old.line }
     {
-        match self.text.push(Placed {
+        self.text.push(Placed {
             byte: b'\n',
             end: at,
-        }) {
-            Ok(()) => {
-                self.context = Context::Code;
-                Ok(())
-            }
-            Err(_) => Err(LexFault::Memory),
-        }
+        })?;
+        self.context = Context::Code;
+        Ok(())
     }
 
     // One more byte of the open statement, which lies at this place.
@@ -205,14 +201,10 @@ impl Reader {
         ensures memory { IfErr result (λ e. e ≡ LexFault.Memory) }
         ensures line { self.new.line ≡ self.old.line }
     {
-        match self.text.push(Placed { byte, end: at + 1 }) {
-            Ok(()) => {
-                self.context = behind(self.context, byte);
-                self.has_begun = self.has_begun || begins(byte);
-                Ok(())
-            }
-            Err(_) => Err(LexFault::Memory),
-        }
+        self.text.push(Placed { byte, end: at + 1 })?;
+        self.context = behind(self.context, byte);
+        self.has_begun = self.has_begun || begins(byte);
+        Ok(())
     }
 
     // The open statement ends, and the next one begins on this line.
@@ -248,13 +240,11 @@ impl Reader {
         if tokens.is_empty() {
             return Ok(());
         }
-        match self.done.push(Stmt {
+        self.done.push(Stmt {
             line: self.start,
             tokens,
-        }) {
-            Ok(()) => Ok(()),
-            Err(_) => Err(LexFault::Memory),
-        }
+        })?;
+        Ok(())
     }
 }
 

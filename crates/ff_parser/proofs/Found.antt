@@ -13,7 +13,7 @@ use Rattle.ff_parser.specs.declared.nest.Stage.TheVariants as stage
 use Rattle.ff_parser.specs.declared.nest.Header.{Header}
 use Rattle.ff_parser.specs.declared.nest.Host.{Host}
 use Rattle.ff_parser.specs.declared.nest.Nest.TheVariants as nest
-use Rattle.ff_parser.specs.declared.nest.Kind.TheVariants as kind
+use Rattle.ff_parser.specs.declared.nest.ScopeKind.TheVariants as kind
 use Rattle.ff_parser.specs.Pieces.{is_return}
 use Rattle.ff_parser.specs.Allowed.{takes_uses, takes_declarations, takes_statements, takes_procedures, is_module, is_procedure, closes, begins_unit}
 use Rattle.ff_parser.specs.Names.{is_named}

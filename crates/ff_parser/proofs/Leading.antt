@@ -17,7 +17,7 @@ use Rattle.ff_parser.specs.declared.nest.Scope.{Scope}
 use Rattle.ff_parser.specs.declared.nest.Header.{Header}
 use Rattle.ff_parser.specs.declared.nest.Host.{Host}
 use Rattle.ff_parser.specs.declared.nest.Level.{Level}
-use Rattle.ff_parser.specs.declared.nest.Kind.TheVariants as kind
+use Rattle.ff_parser.specs.declared.nest.ScopeKind.TheVariants as kind
 use Rattle.ff_parser.specs.declared.nest.Definition.TheVariants as definition
 use Rattle.ff_parser.specs.declared.nest.Nest.{Nest}
 use Rattle.ff_parser.specs.declared.nest.Nest.TheVariants as nest

@@ -12,8 +12,8 @@ use Rattle.ff_parser.specs.declared.nest.Stage.{Stage}
 use Rattle.ff_parser.specs.declared.nest.Stage.TheVariants as stage
 use Rattle.ff_parser.specs.declared.nest.Header.{Header}
 use Rattle.ff_parser.specs.declared.nest.Host.{Host}
-use Rattle.ff_parser.specs.declared.nest.Kind.{Kind}
-use Rattle.ff_parser.specs.declared.nest.Kind.TheVariants as kind
+use Rattle.ff_parser.specs.declared.nest.ScopeKind.{ScopeKind}
+use Rattle.ff_parser.specs.declared.nest.ScopeKind.TheVariants as kind
 use Rattle.ff_parser.specs.declared.nest.Scope.{Scope}
 use Rattle.ff_parser.specs.declared.nest.Definition.TheVariants as definition
 use Rattle.ff_parser.specs.declared.nest.Label.{Label as OpenLabel}
@@ -134,7 +134,7 @@ owner_line (of_procedure u internal line header) = line
 abbrev pub host_with : Opened → Internal → Host
 host_with u internal = record { line = u.line; name = u.name; is_module = u.is_module; decls = body_decls u.body; stmts = block_tree u.body.block; procs = map subprogram_tree internal.procedures }
 
-abbrev pub owner_kind : Owner → Kind
+abbrev pub owner_kind : Owner → ScopeKind
 owner_kind (of_unit line name is_module) = kind.Unit name is_module []
 owner_kind (of_procedure u internal line header) = kind.Procedure header (host_with u internal)
 

@@ -7,8 +7,8 @@ use Rattle.ff_forms.specs.declared.form.End.TheVariants as end
 use Rattle.ff_parser.specs.Pieces.{is_return}
 use Rattle.ff_parser.specs.declared.nest.Stage.{Stage}
 use Rattle.ff_parser.specs.declared.nest.Stage.TheVariants as stage
-use Rattle.ff_parser.specs.declared.nest.Kind.{Kind}
-use Rattle.ff_parser.specs.declared.nest.Kind.TheVariants as kind
+use Rattle.ff_parser.specs.declared.nest.ScopeKind.{ScopeKind}
+use Rattle.ff_parser.specs.declared.nest.ScopeKind.TheVariants as kind
 use Rattle.ff_parser.specs.declared.nest.Scope.{Scope}
 use Rattle.ff_parser.specs.declared.nest.Definition.{Definition}
 use Rattle.ff_parser.specs.declared.nest.Definition.TheVariants as definition
@@ -40,16 +40,16 @@ abbrev pub takes_procedures : Stage → Bool
 takes_procedures stage.Procedures = true
 takes_procedures _ = false
 
-abbrev pub is_procedure : Kind → Bool
+abbrev pub is_procedure : ScopeKind → Bool
 is_procedure (kind.Procedure header host) = true
 is_procedure _ = false
 
-abbrev pub is_module : Kind → Bool
+abbrev pub is_module : ScopeKind → Bool
 is_module (kind.Unit name of_module procs) = of_module
 is_module (kind.Procedure header host) = false
 
 -- the words behind `end` fit what is open; `end` alone closes every unit and procedure
-abbrev pub closes : Kind → End → Bool
+abbrev pub closes : ScopeKind → End → Bool
 closes _ end.Bare = true
 closes (kind.Unit name of_module procs) end.Program = not of_module
 closes (kind.Unit name of_module procs) end.Module = of_module

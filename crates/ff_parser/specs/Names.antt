@@ -3,14 +3,14 @@ use Rattle.std.specs.Prelude.{ℕ, Bool, true, false, List, Option, Some, None, 
 use Rattle.ff_forms.specs.declared.form.Form.{Form}
 use Rattle.ff_forms.specs.declared.form.Form.TheVariants as form
 use Rattle.ff_parser.specs.Pieces.{agrees}
-use Rattle.ff_parser.specs.declared.nest.Kind.{Kind}
-use Rattle.ff_parser.specs.declared.nest.Kind.TheVariants as kind
+use Rattle.ff_parser.specs.declared.nest.ScopeKind.{ScopeKind}
+use Rattle.ff_parser.specs.declared.nest.ScopeKind.TheVariants as kind
 use Rattle.ff_parser.specs.declared.nest.Definition.{Definition}
 use Rattle.ff_parser.specs.declared.nest.Definition.TheVariants as definition
 use Rattle.ff_parser.specs.declared.nest.Nest.{Nest}
 use Rattle.ff_parser.specs.declared.nest.Nest.TheVariants as nest
 
-abbrev pub name_of : Kind → List ℕ
+abbrev pub name_of : ScopeKind → List ℕ
 name_of (kind.Unit name is_module procs) = name
 name_of (kind.Procedure header host) = header.name
 

@@ -17,8 +17,8 @@ use Rattle.ff_parser.specs.declared.nest.Stage.{Stage}
 use Rattle.ff_parser.specs.declared.nest.Stage.TheVariants as stage
 use Rattle.ff_parser.specs.declared.nest.Header.{Header}
 use Rattle.ff_parser.specs.declared.nest.Host.{Host}
-use Rattle.ff_parser.specs.declared.nest.Kind.{Kind}
-use Rattle.ff_parser.specs.declared.nest.Kind.TheVariants as kind
+use Rattle.ff_parser.specs.declared.nest.ScopeKind.{ScopeKind}
+use Rattle.ff_parser.specs.declared.nest.ScopeKind.TheVariants as kind
 use Rattle.ff_parser.specs.declared.nest.Scope.{Scope}
 use Rattle.ff_parser.specs.declared.nest.Definition.{Definition}
 use Rattle.ff_parser.specs.declared.nest.Definition.TheVariants as definition
@@ -30,7 +30,7 @@ use Rattle.ff_parser.specs.declared.nest.Nest.{Nest}
 use Rattle.ff_parser.specs.declared.nest.Nest.TheVariants as nest
 
 -- a unit or procedure of which only the first statement is read
-abbrev pub begun : ℕ → Kind → Scope
+abbrev pub begun : ℕ → ScopeKind → Scope
 begun line kind = record { line = line; kind = kind; stage = stage.Uses; decls = []; stmts = [] }
 
 -- behind a statement outside of units
@@ -46,7 +46,7 @@ abbrev pub executed : List ProgramUnit → Scope → Statement → Nest
 executed units scope statement = nest.Scope units (record scope { stage = stage.Statements; stmts = scope.stmts ++ statement ∷ [] })
 
 -- the unit around a procedure that begins
-abbrev pub host_in : Scope → Kind → Option Host
+abbrev pub host_in : Scope → ScopeKind → Option Host
 host_in scope (kind.Unit name is_module procs) = Some (record { line = scope.line; name = name; is_module = is_module; decls = scope.decls; stmts = scope.stmts; procs = procs })
 host_in scope (kind.Procedure header host) = None
 
@@ -69,7 +69,7 @@ resumed host procedure = record {
 }
 
 -- behind the end of a unit or procedure
-abbrev pub closed_by : List ProgramUnit → Scope → Kind → Nest
+abbrev pub closed_by : List ProgramUnit → Scope → ScopeKind → Nest
 closed_by units scope (kind.Unit name is_module procs) = nest.Outside (units ++ unit_of scope.line name is_module scope.decls scope.stmts procs ∷ [])
 closed_by units scope (kind.Procedure header host) = nest.Scope units (resumed host (procedure_of scope.line header scope.decls scope.stmts))
 

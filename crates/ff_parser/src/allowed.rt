@@ -3,7 +3,7 @@ ghost use Rattle.std.specs.Prelude.{◌≡◌};
 ghost use Rattle.ff_parser.specs.Pieces.{is_return, returns_alone};
 ghost use Rattle.ff_parser.specs.Allowed.{takes_uses, takes_declarations, takes_statements, takes_procedures, is_procedure, is_module, closes, in_scope, has_items, in_definition, has_block, takes_arm, takes_case, closes_construct, in_construct, begins_unit, is_allowed};
 
-use crate::nest::{Definition, Kind, Level, Nest, Parts, Scope, Stage};
+use crate::nest::{Definition, ScopeKind, Level, Nest, Parts, Scope, Stage};
 use ast_nodes::Statement;
 use ff_forms::{End, Form};
 use sqlite_items::Items;
@@ -44,34 +44,34 @@ fn takes_procedures(stage: Stage) -> bool
     }
 }
 
-fn is_procedure(kind: &Kind) -> bool
+fn is_procedure(kind: &ScopeKind) -> bool
     ensures { result ≡ is_procedure kind.now }
 {
     match kind {
-        Kind::Procedure { .. } => true,
+        ScopeKind::Procedure { .. } => true,
         _ => false,
     }
 }
 
-fn is_module(kind: &Kind) -> bool
+fn is_module(kind: &ScopeKind) -> bool
     ensures { result ≡ is_module kind.now }
 {
     match kind {
-        Kind::Unit { is_module, .. } => *is_module,
-        Kind::Procedure { .. } => false,
+        ScopeKind::Unit { is_module, .. } => *is_module,
+        ScopeKind::Procedure { .. } => false,
     }
 }
 
 // Whether these words close a unit or a procedure of this kind.
-fn closes(kind: &Kind, end: End) -> bool
+fn closes(kind: &ScopeKind, end: End) -> bool
     ensures { result ≡ closes kind.now end }
 {
     match (kind, end) {
         (_, End::Bare) => true,
-        (Kind::Unit { is_module, .. }, End::Program) => !*is_module,
-        (Kind::Unit { is_module, .. }, End::Module) => *is_module,
-        (Kind::Procedure { header, .. }, End::Subroutine) => header.get().is_function != 1,
-        (Kind::Procedure { header, .. }, End::Function) => header.get().is_function == 1,
+        (ScopeKind::Unit { is_module, .. }, End::Program) => !*is_module,
+        (ScopeKind::Unit { is_module, .. }, End::Module) => *is_module,
+        (ScopeKind::Procedure { header, .. }, End::Subroutine) => header.get().is_function != 1,
+        (ScopeKind::Procedure { header, .. }, End::Function) => header.get().is_function == 1,
         _ => false,
     }
 }

@@ -66,10 +66,7 @@ fn accepted(alloc: Global, nest: Nest, formed: Formed) -> Result<Nest, SyntaxFau
         form,
         is_deep: _,
     } = formed;
-    match taken(alloc, nest, line, form) {
-        Ok(next) => Ok(next),
-        Err(_) => Err(SyntaxFault::Memory),
-    }
+    Ok(taken(alloc, nest, line, form)?)
 }
 
 fn step(alloc: Global, nest: Nest, formed: Formed) -> Result<Nest, SyntaxFault>

@@ -41,10 +41,8 @@ fn with_vars(mut components: Items<Vars>, vars: Vars) -> Result<Items<Vars>, Mem
 fn with_names(mut names: Items<Name>, more: Items<Name>) -> Result<Items<Name>, Memory>
     ensures { IfOk result (λ all. all ≡ names ++ more) }
 {
-    match names.append(more) {
-        Ok(()) => Ok(names),
-        Err(_) => Err(Memory),
-    }
+    names.append(more)?;
+    Ok(names)
 }
 
 fn derived_type(

@@ -4,19 +4,19 @@ ghost use Rattle.std.specs.Option.{option_copied};
 ghost use Rattle.ff_parser.specs.Pieces.{agrees};
 ghost use Rattle.ff_parser.specs.Names.{name_of, name_of_definition, said, own_name, is_named, begins_construct, is_full};
 
-use crate::nest::{Definition, Kind, Nest};
+use crate::nest::{Definition, ScopeKind, Nest};
 use ff_forms::Form;
 use lf_base::Name;
 
 // With the innermost one they are 64.
 const GREATEST_AROUND: usize = 63;
 
-fn name_of(kind: &Kind) -> &Name
+fn name_of(kind: &ScopeKind) -> &Name
     ensures { result.now ≡ name_of kind.now }
 {
     match kind {
-        Kind::Unit { name, .. } => name,
-        Kind::Procedure { header, .. } => &header.get().name,
+        ScopeKind::Unit { name, .. } => name,
+        ScopeKind::Procedure { header, .. } => &header.get().name,
     }
 }
 

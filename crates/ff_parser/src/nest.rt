@@ -36,7 +36,7 @@ pub struct Host {
 
 /// What a scoping unit is.
 #[derive(Drop)]
-pub enum Kind {
+pub enum ScopeKind {
     /// A main program, or a module.
     Unit {
         name: Name,
@@ -53,7 +53,7 @@ pub enum Kind {
 #[derive(Drop)]
 pub struct Scope {
     pub line: u32,
-    pub kind: Kind,
+    pub kind: ScopeKind,
     pub stage: Stage,
     pub decls: Items<Decl>,
     pub stmts: Items<Statement>,

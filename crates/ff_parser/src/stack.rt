@@ -40,10 +40,8 @@ impl<T: Drop> Stack<T> {
     pub fn push(&mut self, item: T) -> Result<(), Memory>
         ensures { OnOk result (self.new ≡ item ∷ self.old) }
     {
-        match self.items.push_front(item) {
-            Ok(()) => Ok(()),
-            Err(_) => Err(Memory),
-        }
+        self.items.push_front(item)?;
+        Ok(())
     }
 
     pub fn pop(&mut self) -> Option<T>

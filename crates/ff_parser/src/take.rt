@@ -3,7 +3,7 @@ ghost use Rattle.std.specs.Prelude.{◌≡◌, [], ◌∷◌, ◌++◌, Some, No
 ghost use Rattle.ff_parser.specs.Pieces.{unit_of, procedure_of};
 ghost use Rattle.ff_parser.specs.Taken.{begun, from_outside, declared, executed, host_of, entered, resumed, closed, level, level_of, opened_in_scope, begun_in_scope, from_scope};
 
-use crate::nest::{Definition, Header, Host, Kind, Level, Nest, Parts, Scope, Stage};
+use crate::nest::{Definition, Header, Host, ScopeKind, Level, Nest, Parts, Scope, Stage};
 use crate::stack::Stack;
 use ast_nodes::{Decl, Expr, Procedure, Statement, Unit};
 use ff_forms::Form;
@@ -14,13 +14,11 @@ use std::alloc::Global;
 pub fn push<T: Drop>(items: &mut Items<T>, item: T) -> Result<(), Memory>
     ensures { OnOk result (items.new ≡ items.old ++ item ∷ []) }
 {
-    match items.push(item) {
-        Ok(()) => Ok(()),
-        Err(_) => Err(Memory),
-    }
+    items.push(item)?;
+    Ok(())
 }
 
-fn begun(alloc: Global, line: u32, kind: Kind) -> Scope
+fn begun(alloc: Global, line: u32, kind: ScopeKind) -> Scope
     ensures { result ≡ begun line kind }
 {
     Scope {
@@ -33,10 +31,10 @@ fn begun(alloc: Global, line: u32, kind: Kind) -> Scope
 }
 
 fn begun_unit(alloc: Global, line: u32, name: Name, is_module: bool) -> Scope
-    ensures { result ≡ begun line (Kind.Unit name is_module []) }
+    ensures { result ≡ begun line (ScopeKind.Unit name is_module []) }
 {
     let procs = Items::new(alloc);
-    let kind = Kind::Unit {
+    let kind = ScopeKind::Unit {
         name,
         is_module,
         procs,
@@ -95,7 +93,7 @@ fn host_of(scope: Scope) -> Option<Host>
         stmts,
     } = scope;
     match kind {
-        Kind::Unit {
+        ScopeKind::Unit {
             name,
             is_module,
             procs,
@@ -117,18 +115,15 @@ fn host_of(scope: Scope) -> Option<Host>
 fn boxed<T: Drop>(alloc: Global, value: T) -> Result<Boxed<T>, Memory>
     ensures { IfOk result (λ b. b ≡ value) }
 {
-    match Boxed::new(alloc, value) {
-        Ok(value) => Ok(value),
-        Err(_) => Err(Memory),
-    }
+    Ok(Boxed::new(alloc, value)?)
 }
 
-fn procedure_in(alloc: Global, host: Host, header: Header) -> Result<Kind, Memory>
-    ensures { IfOk result (λ kind. kind ≡ Kind.Procedure header host) }
+fn procedure_in(alloc: Global, host: Host, header: Header) -> Result<ScopeKind, Memory>
+    ensures { IfOk result (λ kind. kind ≡ ScopeKind.Procedure header host) }
 {
     let header = boxed(alloc, header)?;
     let host = boxed(alloc, host)?;
-    Ok(Kind::Procedure { header, host })
+    Ok(ScopeKind::Procedure { header, host })
 }
 
 // A procedure begins.
@@ -166,7 +161,7 @@ fn resumed(host: Host, procedure: Procedure) -> Result<Scope, Memory>
     push(&mut procs, procedure)?;
     Ok(Scope {
         line,
-        kind: Kind::Unit {
+        kind: ScopeKind::Unit {
             name,
             is_module,
             procs,
@@ -224,12 +219,12 @@ fn closed(units: Items<Unit>, scope: Scope) -> Result<Nest, Memory>
         stmts,
     } = scope;
     match kind {
-        Kind::Unit {
+        ScopeKind::Unit {
             name,
             is_module,
             procs,
         } => with_unit(units, unit_of(line, name, is_module, decls, stmts, procs)),
-        Kind::Procedure { header, host } => {
+        ScopeKind::Procedure { header, host } => {
             let procedure = procedure_of(line, header.into_inner(), decls, stmts);
             let scope = resumed(host.into_inner(), procedure)?;
             Ok(Nest::Scope { units, scope })

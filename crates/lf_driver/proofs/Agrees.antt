@@ -3,9 +3,9 @@ use Rattle.std.proofs.Common.{◌≡◌, ℕ, suc, ◌+◌, ◌^◌, ◌<◌, �
 use Rattle.std.specs.Fmt.{signed_decimal}
 use Rattle.std.proofs.Math.IntN.{ℤ, pos}
 use Rattle.std.proofs.lemmas.Int.{ints}
-use Rattle.lf_base.specs.Outcome.{Place, Written, Outcome, Ended, Cut, Wrong, IsBegun, Extends, KeepsPlace, written}
+use Rattle.lf_base.specs.Outcome.{Location, Written, Fault, Outcome, Ended, Cut, Wrong, IsBegun, Extends, KeepsLocation, Never, written}
 use Rattle.lf_base.specs.Acts.{Going, Stopped, bind, give, print, outcome_of}
-use Rattle.lf_base.specs.Near.{IsSound, IsNearBy, slack, Near, Agree, IsMonotone}
+use Rattle.lf_base.specs.Near.{IsNearBy, slack, Near, Agree, IsMonotone}
 use Rattle.lf_base.proofs.Links.{one_link}
 use Rattle.lf_base.proofs.Outcomes.{begun_same}
 use Rattle.lf_base.proofs.Runs.{bind_going, bind_stopped, order_next, order_left, order_stopped}
@@ -187,62 +187,61 @@ module _ (source : Source) (small : IsSmall source.value) (few : count source.va
   c_ends = main_ends (value_of source.value) computed_is
 
 -- the meaning of the program, at any bounds
-abbrev fortran_end : Place → Option ℤ → Outcome
-fortran_end place (Some v) = Ended (written (codes " " ++ (signed_decimal v ++ 10 ∷ [])) []) 0 None
-fortran_end place None = Ended (written (codes " ") overflow_text) 101 (Some place)
+abbrev fortran_end : Location → Option ℤ → Outcome
+fortran_end location (Some v) = Ended (written (codes " " ++ (signed_decimal v ++ 10 ∷ [])) []) 0 None
+fortran_end location None = Ended (written (codes " ") overflow_text) 101 (Some location)
 
-fortran_is : (place : Place) (source : Source) (input : List ℕ) (n d : ℕ) (o : Option ℤ) → value_of source.value ≡ o → FortranMeaning place source input n d ≡ fortran_end place o
-fortran_is place source input n d (Some v) e = ap (λ o. outcome_of (bind (print (codes " ")) (λ u. bind (value_or_trap place o) (λ z. bind (print (signed_decimal z ++ codes "\n")) (λ v. give 0))) input (written [] []))) e
-fortran_is place source input n d None e = ap (λ o. outcome_of (bind (print (codes " ")) (λ u. bind (value_or_trap place o) (λ z. bind (print (signed_decimal z ++ codes "\n")) (λ v. give 0))) input (written [] []))) e
+fortran_is : (location : Location) (source : Source) (input : List ℕ) (n d : ℕ) (o : Option ℤ) → value_of source.value ≡ o → FortranMeaning location source input n d ≡ fortran_end location o
+fortran_is location source input n d (Some v) e = ap (λ o. outcome_of (bind (print (codes " ")) (λ u. bind (value_or_trap location o) (λ z. bind (print (signed_decimal z ++ codes "\n")) (λ v. give 0))) input (written [] []))) e
+fortran_is location source input n d None e = ap (λ o. outcome_of (bind (print (codes " ")) (λ u. bind (value_or_trap location o) (λ z. bind (print (signed_decimal z ++ codes "\n")) (λ v. give 0))) input (written [] []))) e
 
 -- Two meanings of which the first always ends alike, and the second at bounds that are not small.
-module _ (f c : ℕ → ℕ → Outcome) (mono : IsMonotone c) (k : ℕ) (big : 20 ≤ k) (w : Written) (status : ℕ) (p p' : Option Place) (kept : KeepsPlace p p') (always : (n d : ℕ) → f n d ≡ Ended w status p) (then : (n d : ℕ) → 20 ≤ n → c n (suc (suc (suc d))) ≡ Ended w status p') where
+module _ (f c : ℕ → ℕ → Outcome) (mono : IsMonotone c) (k : ℕ) (big : 20 ≤ k) (w : Written) (status : ℕ) (p p' : Option Location) (kept : KeepsLocation p p') (always : (n d : ℕ) → f n d ≡ Ended w status p) (then : (n d : ℕ) → 20 ≤ n → c n (suc (suc (suc d))) ≡ Ended w status p') where
   at_larger : (n d : ℕ) → c (n + k) (d + 8) ≡ Ended w status p'
   at_larger n d = ap (λ x. c (n + k) x) (omega arith) ∙ then (n + k) (d + 5) (omega arith)
 
-  same_end : (n d : ℕ) (v : Written) (s : ℕ) (q : Option Place) → c n d ≡ Ended v s q → Ended v s q ≡ Ended w status p'
+  same_end : (n d : ℕ) (v : Written) (s : ℕ) (q : Option Location) → c n d ≡ Ended v s q → Ended v s q ≡ Ended w status p'
   same_end n d v s q is = sym (mono.ended n (n + k) d (d + 8) (omega arith) (omega arith) v s q is) ∙ at_larger n d
 
-  front_of : (v : Written) (o : Outcome) → o ≡ Ended w status p' → Extends (Unit {0}) v o → IsBegun v w
-  front_of v o e h = subst (λ x. Extends (Unit {0}) v x) e h
+  front_of : (v : Written) (o : Outcome) → o ≡ Ended w status p' → Extends v o → IsBegun v w
+  front_of v o e h = subst (λ x. Extends v x) e h
 
-  sound_by : (n d : ℕ) (o : Outcome) → c n d ≡ o → IsSound o
-  sound_by n d (Ended v s q) is = tt
-  sound_by n d (Cut v) is = tt
-  sound_by n d (Wrong fault) is = absurd (let a = mono.wrong n (n + k) d (d + 8) (omega arith) (omega arith) fault is in let b = at_larger n d in cc)
+  never_wrong : (n d : ℕ) (fault : Fault) → c n d ≡ Wrong fault → ⊥
+  never_wrong n d fault is = let a = mono.wrong n (n + k) d (d + 8) (omega arith) (omega arith) fault is in let b = at_larger n d in absurd (cc)
 
-  pub ends_near : IsNearBy k 8 f c
+  pub ends_near : IsNearBy Never k 8 f c
   ends_near = record {
-    ended = λ n d v s q is. let e : Ended v s q ≡ Ended w status p = sym is ∙ always n d in (p', subst (λ x. KeepsPlace x p') (let a : p ≡ q = cc in a) kept, at_larger n d ∙ (let a : Ended w status p' ≡ Ended v s p' = cc in a));
-    ended_only = λ n d v s q is. let e = same_end n d v s q is in (p, subst (λ x. KeepsPlace p x) (let a : p' ≡ q = cc in a) kept, always (n + k) (d + 8) ∙ (let a : Ended w status p ≡ Ended v s p = cc in a));
+    ended = λ n d v s q is. let e : Ended v s q ≡ Ended w status p = sym is ∙ always n d in (p', subst (λ x. KeepsLocation x p') (let a : p ≡ q = cc in a) kept, at_larger n d ∙ (let a : Ended w status p' ≡ Ended v s p' = cc in a));
+    ended_only = λ n d v s q is. let e = same_end n d v s q is in (p, subst (λ x. KeepsLocation p x) (let a : p' ≡ q = cc in a) kept, always (n + k) (d + 8) ∙ (let a : Ended w status p ≡ Ended v s p = cc in a));
     cut = λ n d v is. absurd (let b = always n d in cc);
-    cut_only = λ n d v is. subst (λ o. Extends ⊥ v o) (sym (always (n + k) (d + 8))) (front_of v (c (n + k) (d + 8)) (at_larger n d) (mono.cut n (n + k) d (d + 8) (omega arith) (omega arith) v is));
-    sound = λ n d. (subst IsSound (sym (always n d)) tt, sound_by n d (c n d) refl);
+    cut_only = λ n d v is. subst (λ o. Extends v o) (sym (always (n + k) (d + 8))) (front_of v (c (n + k) (d + 8)) (at_larger n d) (mono.cut n (n + k) d (d + 8) (omega arith) (omega arith) v is));
+    wrong = λ n d fault is. absurd (let b = always n d in cc);
+    wrong_only = λ n d fault is. absurd (never_wrong n d fault is);
   }
 
 constant_monotone : (f : ℕ → ℕ → Outcome) (o : Outcome) → ((n d : ℕ) → f n d ≡ o) → IsMonotone f
 constant_monotone f o h = record {
   ended = λ n n' d d' ln ld v s q is. h n' d' ∙ sym (h n d) ∙ is;
-  cut = λ n n' d d' ln ld v is. subst (λ x. Extends (Unit {0}) v x) (sym (h n' d' ∙ sym (h n d) ∙ is)) (begun_same v);
+  cut = λ n n' d d' ln ld v is. subst (λ x. Extends v x) (sym (h n' d' ∙ sym (h n d) ∙ is)) (begun_same v);
   wrong = λ n n' d d' ln ld fault is. h n' d' ∙ sym (h n d) ∙ is;
 }
 
-near_by_value : (place : Place) (source : Source) → IsSmall source.value → count source.value < 2 ^ 70 → length source.name < 2 ^ 64 → (o : Option ℤ) → value_of source.value ≡ o → Near (FortranMeaning place source) (CMeaning (lowered_file source ∷ []))
-near_by_value place source small few short (Some v) e = record {
-  on = λ input. ends_near (FortranMeaning place source input) (CMeaning (lowered_file source ∷ []) input) (meaning_monotone (lowered_file source ∷ []) input) (slack (length input)) (omega arith) (written (codes " " ++ (signed_decimal v ++ 10 ∷ [])) []) 0 None None tt
-      (λ n d. fortran_is place source input n d (Some v) e)
+near_by_value : (location : Location) (source : Source) → IsSmall source.value → count source.value < 2 ^ 70 → length source.name < 2 ^ 64 → (o : Option ℤ) → value_of source.value ≡ o → Near (FortranMeaning location source) (CMeaning (lowered_file source ∷ []))
+near_by_value location source small few short (Some v) e = record {
+  on = λ input. ends_near (FortranMeaning location source input) (CMeaning (lowered_file source ∷ []) input) (meaning_monotone (lowered_file source ∷ []) input) (slack (length input)) (omega arith) (written (codes " " ++ (signed_decimal v ++ 10 ∷ [])) []) 0 None None tt
+      (λ n d. fortran_is location source input n d (Some v) e)
       (λ n d big. c_ends source small few short n d big input ∙ ap (end_of source small few short n d big input) e ∙ ap (λ out. Ended (written out []) 0 None) (append_assoc (codes " ") (signed_decimal v) (10 ∷ [])));
 }
-near_by_value place source small few short None e = record {
-  on = λ input. ends_near (FortranMeaning place source input) (CMeaning (lowered_file source ∷ []) input) (meaning_monotone (lowered_file source ∷ []) input) (slack (length input)) (omega arith) (written (codes " ") overflow_text) 101 (Some place) None tt
-      (λ n d. fortran_is place source input n d None e)
+near_by_value location source small few short None e = record {
+  on = λ input. ends_near (FortranMeaning location source input) (CMeaning (lowered_file source ∷ []) input) (meaning_monotone (lowered_file source ∷ []) input) (slack (length input)) (omega arith) (written (codes " ") overflow_text) 101 (Some location) None tt
+      (λ n d. fortran_is location source input n d None e)
       (λ n d big. c_ends source small few short n d big input ∙ ap (end_of source small few short n d big input) e);
 }
 
 -- The printed C and the program agree.
-pub agrees : (place : Place) (source : Source) → IsSmall source.value → count source.value < 2 ^ 70 → length source.name < 2 ^ 64 → Agree (FortranMeaning place source) (CMeaning (lowered_file source ∷ []))
-agrees place source small few short =
-    one_link (FortranMeaning place source) (CMeaning (lowered_file source ∷ []))
-    (λ input. constant_monotone (FortranMeaning place source input) (fortran_end place (value_of source.value)) (λ n d. fortran_is place source input n d (value_of source.value) refl))
+pub agrees : (location : Location) (source : Source) → IsSmall source.value → count source.value < 2 ^ 70 → length source.name < 2 ^ 64 → Agree (FortranMeaning location source) (CMeaning (lowered_file source ∷ []))
+agrees location source small few short =
+    one_link (FortranMeaning location source) (CMeaning (lowered_file source ∷ []))
+    (λ input. constant_monotone (FortranMeaning location source input) (fortran_end location (value_of source.value)) (λ n d. fortran_is location source input n d (value_of source.value) refl))
     (λ input. meaning_monotone (lowered_file source ∷ []) input)
-    (near_by_value place source small few short (value_of source.value) refl)
+    (near_by_value location source small few short (value_of source.value) refl)

@@ -5,8 +5,8 @@ use Rattle.std.specs.FinMap.{get}
 use Rattle.lf_base.specs.Files.{Files}
 use Rattle.lf_driver.specs.declared.command.Verb.{Verb}
 use Rattle.lf_driver.specs.declared.command.Verb.TheVariants.{Compile, Ast}
-use Rattle.lf_driver.specs.declared.outcome.Outcome.{Outcome}
-use Rattle.lf_driver.specs.declared.outcome.Outcome.TheVariants.{Done, Usage, Absent, Refused, ReadFault, WriteFault, Memory}
+use Rattle.lf_driver.specs.declared.outcome.Answer.{Answer}
+use Rattle.lf_driver.specs.declared.outcome.Answer.TheVariants.{Done, Usage, Absent, Refused, ReadFault, WriteFault, Memory}
 use Rattle.lf_driver.specs.Show.{GainsFront}
 use Rattle.lf_driver.specs.Words.{CommandText, verb_of, with_file, words_of, is_source_name, begins_with_hyphen, ends_as_source, shows}
 use Rattle.lf_driver.specs.Verdict.{of_file, of_command, verdict}
@@ -53,7 +53,7 @@ some words command h = subst IsSome (sym h) refl
 is : (verb : Verb) (words : List (List ℕ)) (file : List ℕ) (files : Files) → words_of words ≡ Some (verb, 0, file ∷ []) → verdict words files ≡ of_file verb file (get files file)
 is verb words file files h = ap (λ c. of_command c files) h
 
-comes_to : (o : Outcome) (verb : Verb) (words : List (List ℕ)) (file : List ℕ) (old new : Option Files) (a b : Option (List ℕ)) → words_of words ≡ Some (verb, 0, file ∷ []) → VerbComesTo o verb file old new a b → ComesTo o words old new a b
+comes_to : (o : Answer) (verb : Verb) (words : List (List ℕ)) (file : List ℕ) (old new : Option Files) (a b : Option (List ℕ)) → words_of words ≡ Some (verb, 0, file ∷ []) → VerbComesTo o verb file old new a b → ComesTo o words old new a b
 comes_to Done Compile words file old new a b h k = inl (file, h, k.0, k.1)
 comes_to Usage Compile words file old new a b h k = absurd k.0
 comes_to (Absent name) Compile words file None new a b h k = (some words _ h, k.0.0, k.1, tt)
@@ -77,11 +77,11 @@ comes_to Memory Ast words file None new a b h k = (k.1, tt)
 comes_to Memory Ast words file (Some files) new a b h k = (k.1, subst (λ v. GainsFront v a b) (sym (is Ast words file files h)) k.0)
 
 -- the same of a file that has this name
-pub comes_to_named : (o : Outcome) (verb : Verb) (words : List (List ℕ)) (file name : List ℕ) (old new : Option Files) (a b : Option (List ℕ)) → words_of words ≡ Some (verb, 0, file ∷ []) → name ≡ file → VerbComesTo o verb name old new a b → ComesTo o words old new a b
+pub comes_to_named : (o : Answer) (verb : Verb) (words : List (List ℕ)) (file name : List ℕ) (old new : Option Files) (a b : Option (List ℕ)) → words_of words ≡ Some (verb, 0, file ∷ []) → name ≡ file → VerbComesTo o verb name old new a b → ComesTo o words old new a b
 comes_to_named o verb words file name old new a b h e k = comes_to o verb words file old new a b h (subst (λ n. VerbComesTo o verb n old new a b) e k)
 
 -- the counts of a file that is compiled, and of one whose tree is printed
-pub counts_compiled : (o : Outcome) (r r' w w' p p' : ℕ) → Counts o r r' w w' → p' ≡ p → CountsAll o r r' w w' p p'
+pub counts_compiled : (o : Answer) (r r' w w' p p' : ℕ) → Counts o r r' w w' → p' ≡ p → CountsAll o r r' w w' p p'
 counts_compiled Done r r' w w' p p' h k = (h.0, h.1, k)
 counts_compiled Usage r r' w w' p p' h k = (h.0, h.1, k)
 counts_compiled (Absent name) r r' w w' p p' h k = (h.0, h.1, k)
@@ -90,7 +90,7 @@ counts_compiled ReadFault r r' w w' p p' h k = (h.0, h.1, k)
 counts_compiled WriteFault r r' w w' p p' h k = (h.0, inl (h.1, k))
 counts_compiled Memory r r' w w' p p' h k = (h.0, h.1, k)
 
-pub counts_shown : (o : Outcome) (r r' w w' p p' : ℕ) → Counts o r r' p p' → w' ≡ w → CountsAll o r r' w w' p p'
+pub counts_shown : (o : Answer) (r r' w w' p p' : ℕ) → Counts o r r' p p' → w' ≡ w → CountsAll o r r' w w' p p'
 counts_shown Done r r' w w' p p' h k = (h.0, k, h.1)
 counts_shown Usage r r' w w' p p' h k = (h.0, k, h.1)
 counts_shown (Absent name) r r' w w' p p' h k = (h.0, k, h.1)

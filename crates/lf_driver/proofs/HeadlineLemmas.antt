@@ -4,12 +4,12 @@ use Rattle.lf_base.specs.Files.{Files}
 use Rattle.c_nodes.specs.Grammar.{IsGrammatical}
 use Rattle.c_nodes.proofs.PreludeTexts.{prelude_spelled}
 use Rattle.lf_driver.specs.declared.command.Verb.TheVariants.{Compile}
-use Rattle.lf_driver.specs.declared.outcome.Outcome.{Outcome}
-use Rattle.lf_driver.specs.declared.outcome.Outcome.TheVariants.{Done, Usage, Absent, Refused, ReadFault, WriteFault, Memory}
+use Rattle.lf_driver.specs.declared.outcome.Answer.{Answer}
+use Rattle.lf_driver.specs.declared.outcome.Answer.TheVariants.{Done, Usage, Absent, Refused, ReadFault, WriteFault, Memory}
 use Rattle.lf_driver.specs.Answers.{Call}
 use Rattle.lf_driver.specs.Compile.{IsFit, Compiles}
 use Rattle.lf_driver.specs.Ends.{Writes, Shows, status_of, ComesTo, Reports, Tells}
-use Rattle.lf_driver.specs.Headline.{place_of, IsFaithful, Means, KeepsMeaning}
+use Rattle.lf_driver.specs.Headline.{location_of, IsFaithful, Means, KeepsMeaning}
 use Rattle.lf_driver.specs.Lowered.{c_file}
 use Rattle.lf_driver.specs.Source.{Source}
 use Rattle.lf_driver.specs.Words.{CommandText, words_of, shows}
@@ -27,7 +27,7 @@ c_grammatical (Some source) h = grammatical source h.small (wider _ h.few) h.sho
 
 faithful : (file : List ℕ) (source : Option Source) → IsFit source → IsFaithful file source
 faithful file None h = tt
-faithful file (Some source) h = (linked source (wider _ h.few) h.short, agrees (place_of file source) source h.small (wider _ h.few) h.short)
+faithful file (Some source) h = (linked source (wider _ h.few) h.short, agrees (location_of file source) source h.small (wider _ h.few) h.short)
 
 means : (c : Call) (files : Files) (file : List ℕ) → Compiles file files c.new → Means c files file
 means c files file k =
@@ -49,7 +49,7 @@ positive : (n k : ℕ) → 0 < n → n ≡ k → k ≡ 0 → ⊥
 positive n k h e z = omega (arith, h, e, z)
 
 -- where nothing is told, the call is done
-tells_done : (came told : Outcome) (a b : Option (List ℕ)) (m n : ℕ) → Tells came told a b m n → status_of told ≡ 0 → came ≡ Done
+tells_done : (came told : Answer) (a b : Option (List ℕ)) (m n : ℕ) → Tells came told a b m n → status_of told ≡ 0 → came ≡ Done
 tells_done came Done a b m n h e = sym h.0
 tells_done came Usage a b m n h e = absurd (positive 2 2 (omega arith) refl e)
 tells_done came (Absent name) a b m n h e = absurd (positive 2 2 (omega arith) refl e)
@@ -58,7 +58,7 @@ tells_done came ReadFault a b m n h e = absurd (positive 3 3 (omega arith) refl 
 tells_done came WriteFault a b m n h e = absurd (positive 4 4 (omega arith) refl e)
 tells_done came Memory a b m n h e = absurd (positive 5 5 (omega arith) refl e)
 
-came_done : (came told : Outcome) (a b : Option (List ℕ)) (m n : ℕ) → Reports came told a b m n → status_of told ≡ 0 → came ≡ Done
+came_done : (came told : Answer) (a b : Option (List ℕ)) (m n : ℕ) → Reports came told a b m n → status_of told ≡ 0 → came ≡ Done
 came_done Done told a b m n h e = refl
 came_done Usage told a b m n h e = tells_done Usage told a b m n h e
 came_done (Absent name) told a b m n h e = tells_done (Absent name) told a b m n h e
@@ -84,7 +84,7 @@ compiles c files file t w (inr k) = absurd (no (sym (ap shows w) ∙ k.0))
     no : false ≡ true → ⊥
     no e = cc
 
-pub keeps_meaning : (status : ℕ) (came told : Outcome) (c : Call) → status ≡ status_of told → ComesTo came c.words c.old c.new c.shown c.shown' → Reports came told c.held c.held' c.faults c.faults' → KeepsMeaning status c
+pub keeps_meaning : (status : ℕ) (came told : Answer) (c : Call) → status ≡ status_of told → ComesTo came c.words c.old c.new c.shown c.shown' → Reports came told c.held c.held' c.faults c.faults' → KeepsMeaning status c
 keeps_meaning status came told c e k r z files t file w =
     let done : came ≡ Done = came_done came told c.held c.held' c.faults c.faults' r (sym e ∙ z) in
     means c files file (compiles c files file t w (subst (λ o. ComesTo o c.words c.old c.new c.shown c.shown') done k))

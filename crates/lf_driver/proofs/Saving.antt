@@ -14,8 +14,8 @@ use Rattle.lf_base.specs.Files.{Files, Begins, Finishes, ReadGives, greatest_fil
 use Rattle.ff_lexer.specs.Statements.{spelled_as, found_in, drafts_of, statements_of}
 use Rattle.ast_nodes.specs.declared.file.File.{File}
 use Rattle.lf_driver.specs.declared.command.Verb.TheVariants.{Compile}
-use Rattle.lf_driver.specs.declared.outcome.Outcome.{Outcome}
-use Rattle.lf_driver.specs.declared.outcome.Outcome.TheVariants.{Done, Usage, Absent, Refused, ReadFault, WriteFault, Memory}
+use Rattle.lf_driver.specs.declared.outcome.Answer.{Answer}
+use Rattle.lf_driver.specs.declared.outcome.Answer.TheVariants.{Done, Usage, Absent, Refused, ReadFault, WriteFault, Memory}
 use Rattle.lf_driver.specs.Built.{program_in, judged}
 use Rattle.lf_driver.specs.Front.{then_file, front_of, then_built, source_in}
 use Rattle.lf_driver.specs.Verdict.{c_name, of_source, of_file}
@@ -68,7 +68,7 @@ none_there view (Some files) new file h k = (k, ap (of_file Compile file.now) h)
 there : {V : Type 0} (view : V → List ℕ) (v : V) (files : Files) (file : List ℕ) → ReadGives {V = V} view (Some files) file (Ok v) → of_file Compile file (get files file) ≡ of_source file (source_in (view v))
 there view v files file h = ap (of_file Compile file) h.0
 
-pub text_there : {V : Type 0} (view : V → List ℕ) (v : V) (o : Outcome) (old now new : Option Files) (file : List ℕ) → ReadGives {V = V} view old file (Ok v) → now ≡ old → TextComesTo o file (view v) now new → FileComesTo o file old new
+pub text_there : {V : Type 0} (view : V → List ℕ) (v : V) (o : Answer) (old now new : Option Files) (file : List ℕ) → ReadGives {V = V} view old file (Ok v) → now ≡ old → TextComesTo o file (view v) now new → FileComesTo o file old new
 text_there view v Done None now new file h k t = tt
 text_there view v Done (Some files) now new file h k t = record { text = view v; bytes = t.0; there = h.0; compiled = t.1; written = t.2.told files k }
 text_there view v Usage old now new file h k t = absurd t
@@ -87,5 +87,5 @@ pub text_refused : (file : Bor (List ℕ)) (text : List ℕ) (line : ℕ) (rule 
 text_refused file text line rule old new h k = (ap (of_source file.now) h, k)
 
 -- counts that did not change before
-pub counts_after : (o : Outcome) (r r' r'' w w' w'' : ℕ) → r' ≡ r → w' ≡ w → Counts o r' r'' w' w'' → Counts o r r'' w w''
+pub counts_after : (o : Answer) (r r' r'' w w' w'' : ℕ) → r' ≡ r → w' ≡ w → Counts o r' r'' w' w'' → Counts o r r'' w w''
 counts_after o r r' r'' w w' w'' h k c = subst (λ n. Counts o n r'' w w'') h (subst (λ n. Counts o r' r'' n w'') k c)

@@ -9,8 +9,8 @@ use Rattle.lf_base.specs.declared.fault.GetFault.TheVariants as read
 use Rattle.lf_base.specs.Contents.{Appends, AppendsPart}
 use Rattle.lf_base.specs.Files.{Files, ReadGives}
 use Rattle.lf_driver.specs.declared.command.Verb.TheVariants.{Ast}
-use Rattle.lf_driver.specs.declared.outcome.Outcome.{Outcome}
-use Rattle.lf_driver.specs.declared.outcome.Outcome.TheVariants.{Done, Usage, Absent, Refused, ReadFault, WriteFault, Memory}
+use Rattle.lf_driver.specs.declared.outcome.Answer.{Answer}
+use Rattle.lf_driver.specs.declared.outcome.Answer.TheVariants.{Done, Usage, Absent, Refused, ReadFault, WriteFault, Memory}
 use Rattle.lf_driver.specs.Front.{Parsed, front_of}
 use Rattle.lf_driver.specs.Show.{Gains, GainsFront, GivesTree, TextShows, FileShows}
 use Rattle.lf_driver.specs.Verdict.{Verdict, Told, of_tree, of_file}
@@ -57,7 +57,7 @@ shows_nothing (Some files) file a b k = none_gained (of_file Ast file (get files
 there : {V : Type 0} (view : V → List ℕ) (v : V) (files : Files) (file : List ℕ) → ReadGives {V = V} view (Some files) file (Ok v) → of_file Ast file (get files file) ≡ of_tree file (front_of (view v))
 there view v files file h = ap (of_file Ast file) h.0
 
-pub text_shows : {V : Type 0} (view : V → List ℕ) (v : V) (o : Outcome) (files : Option Files) (file : List ℕ) (a b : Option (List ℕ)) → ReadGives {V = V} view files file (Ok v) → TextShows o file (view v) a b → FileShows o file files a b
+pub text_shows : {V : Type 0} (view : V → List ℕ) (v : V) (o : Answer) (files : Option Files) (file : List ℕ) (a b : Option (List ℕ)) → ReadGives {V = V} view files file (Ok v) → TextShows o file (view v) a b → FileShows o file files a b
 text_shows view v Done None file a b h t = tt
 text_shows view v Done (Some files) file a b h t = (t.0, there view v files file h ∙ t.1, t.2)
 text_shows view v Usage files file a b h t = absurd t

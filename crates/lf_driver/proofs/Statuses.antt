@@ -5,8 +5,8 @@ use Rattle.lf_base.specs.Causes.{Rose}
 use Rattle.lf_base.specs.Contents.{Appends}
 use Rattle.lf_base.specs.Files.{Files}
 use Rattle.lf_driver.specs.declared.command.Verb.TheVariants.{Compile}
-use Rattle.lf_driver.specs.declared.outcome.Outcome.{Outcome}
-use Rattle.lf_driver.specs.declared.outcome.Outcome.TheVariants.{Done, Usage, Absent, Refused, ReadFault, WriteFault, Memory}
+use Rattle.lf_driver.specs.declared.outcome.Answer.{Answer}
+use Rattle.lf_driver.specs.declared.outcome.Answer.TheVariants.{Done, Usage, Absent, Refused, ReadFault, WriteFault, Memory}
 use Rattle.lf_driver.specs.Built as built
 use Rattle.lf_driver.specs.Front.{then_built, source_in}
 use Rattle.lf_driver.specs.Compile.{Compiled, Compiles}
@@ -18,10 +18,10 @@ use Rattle.lf_driver.specs.Answers.{Call, AnswersWritten, AnswersShown, Answered
 use Rattle.lf_driver.proofs.Doing.{fronts}
 
 -- the text of what came was written, or that of a fault behind a front of it
-abbrev Announced : Outcome → Outcome → Call → Type 0
+abbrev Announced : Answer → Answer → Call → Type 0
 Announced came told c = ((told ≡ came) × Appends c.held c.held' (text_of came) × (c.faults' ≡ c.faults)) ⊎ (((told ≡ WriteFault) × Rose c.faults c.faults' × GainsBoth c.held c.held' (text_of came) (text_of WriteFault)) ⊎ ((told ≡ Memory) × GainsBoth c.held c.held' (text_of came) (text_of Memory)))
 
-told_by : (came told : Outcome) (c : Call) → Tells came told c.held c.held' c.faults c.faults' → Announced came told c
+told_by : (came told : Answer) (c : Call) → Tells came told c.held c.held' c.faults c.faults' → Announced came told c
 told_by came Done c h = inl (h.0, h.1, h.2)
 told_by came Usage c h = inl (h.0, h.1, h.2)
 told_by came (Absent name) c h = inl (h.0, h.1, h.2)
@@ -30,11 +30,11 @@ told_by came ReadFault c h = inl (h.0, h.1, h.2)
 told_by came WriteFault c h = inr (inl (refl, h.0, h.1))
 told_by came Memory c h = inr (inr (refl, h))
 
-abbrev Answers : Outcome → Call → Type 0
+abbrev Answers : Answer → Call → Type 0
 Answers told c = Answered (status_of told) c
 
 -- a text of the words' own, and what is told in its place
-module _ (came told : Outcome) (c : Call) (kept : c.new ≡ c.old) (shown : c.shown' ≡ c.shown) (comes : ComesTo came c.words c.old c.new c.shown c.shown') (counts : (c.reads' ≡ c.reads) × (c.writes' ≡ c.writes) × (c.puts' ≡ c.puts)) (own : Appends c.held c.held' (text_of came) → c.faults' ≡ c.faults → Answers came c) where
+module _ (came told : Answer) (c : Call) (kept : c.new ≡ c.old) (shown : c.shown' ≡ c.shown) (comes : ComesTo came c.words c.old c.new c.shown c.shown') (counts : (c.reads' ≡ c.reads) × (c.writes' ≡ c.writes) × (c.puts' ≡ c.puts)) (own : Appends c.held c.held' (text_of came) → c.faults' ≡ c.faults → Answers came c) where
   with_text : Announced came told c → Answers told c
   with_text (inl h) = subst (λ o. Answers o c) (sym h.0) (own h.1 h.2)
   with_text (inr (inl h)) = subst (λ o. Answers o c) (sym h.0) (kept, counts.0, inr (counts.1, counts.2, shown, h.1, (came, comes, h.2)))
@@ -59,7 +59,7 @@ done : (c : Call) → Writes c.words c.old c.new c.shown c.shown' ⊎ Shows c.wo
 done c (inl k) = (subst IsSome (sym k.1) refl, inl (k.3, written c.words k.0 c.old c.new k.1 k.2))
 done c (inr k) = (some_shows (words_of c.words) k.0, inr k)
 
-answers : (came told : Outcome) (c : Call) → ComesTo came c.words c.old c.new c.shown c.shown' → CountsAll came c.reads c.reads' c.writes c.writes' c.puts c.puts' → Reports came told c.held c.held' c.faults c.faults' → Answers told c
+answers : (came told : Answer) (c : Call) → ComesTo came c.words c.old c.new c.shown c.shown' → CountsAll came c.reads c.reads' c.writes c.writes' c.puts c.puts' → Reports came told c.held c.held' c.faults c.faults' → Answers told c
 answers Done told c k n r = let d = done c k in subst (λ o. Answers o c) (sym r.0) (d.0, d.1, r.1, (n.0, n.1, n.2, r.2))
 answers Usage told c k n r = with_text Usage told c k.1 k.2 k n (λ a f. inl (k.0, (k.1, k.2), a, (n.0, n.1, n.2, f))) (told_by Usage told c r)
 answers (Absent name) told c k n r = with_text (Absent name) told c k.1 k.2 k n (λ a f. inr (k.0, (k.1, k.2), (name.now, k.3, a), (n.0, n.1, n.2, f))) (told_by (Absent name) told c r)
@@ -68,5 +68,5 @@ answers ReadFault told c k n r = subst (λ o. Answers o c) (sym r.0) (k, n.0, n.
 answers WriteFault told c k n r = subst (λ o. Answers o c) (sym r.0) (k.0, n.0, inl (n.1, k.1, r.1))
 answers Memory told c k n r = subst (λ o. Answers o c) (sym r.0) (k.0, n.0, n.1, n.2, k.1, inl r.1)
 
-pub answered : (status : ℕ) (came told : Outcome) (c : Call) → status ≡ status_of told → ComesTo came c.words c.old c.new c.shown c.shown' → CountsAll came c.reads c.reads' c.writes c.writes' c.puts c.puts' → Reports came told c.held c.held' c.faults c.faults' → Answered status c
+pub answered : (status : ℕ) (came told : Answer) (c : Call) → status ≡ status_of told → ComesTo came c.words c.old c.new c.shown c.shown' → CountsAll came c.reads c.reads' c.writes c.writes' c.puts c.puts' → Reports came told c.held c.held' c.faults c.faults' → Answered status c
 answered status came told c e k n r = subst (λ s. Answered s c) (sym e) (answers came told c k n r)

@@ -7,7 +7,7 @@ use Rattle.lf_base.specs.Causes.{Rose}
 use Rattle.lf_base.specs.Contents.{Appends, AppendsPart, joined}
 use Rattle.lf_base.specs.Files.{Files}
 use Rattle.lf_base.specs.Rules.{number_of}
-use Rattle.lf_driver.specs.declared.outcome.Outcome.{Outcome}
+use Rattle.lf_driver.specs.declared.outcome.Answer.{Answer}
 use Rattle.lf_driver.specs.Words.{words_of}
 use Rattle.lf_driver.specs.Verdict.{Verdict, Told, verdict}
 use Rattle.lf_driver.specs.Verdict as judged
@@ -72,7 +72,7 @@ AnswersAbsent c =
 
 -- a text that told what had come could not be written, and this one was tried behind a front of it
 abbrev pub InPlace : Call → List ℕ → Type 0
-InPlace c text = (came : Outcome) × ComesTo came c.words c.old c.new c.shown c.shown' × GainsBoth c.held c.held' (text_of came) text
+InPlace c text = (came : Answer) × ComesTo came c.words c.old c.new c.shown c.shown' × GainsBoth c.held c.held' (text_of came) text
 
 -- the store could not be written, or the sink of the trees, which has gained a front of its text
 abbrev pub AnswersStuck : Call → Type 0

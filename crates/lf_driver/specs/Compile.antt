@@ -13,8 +13,8 @@ use Rattle.c_nodes.specs.declared.tree.CStmt.{CStmt}
 use Rattle.c_nodes.specs.Prelude.{prelude_file}
 use Rattle.c_nodes.specs.Text.{file_text}
 use Rattle.lf_driver.specs.declared.command.Verb.TheVariants.{Compile}
-use Rattle.lf_driver.specs.declared.outcome.Outcome.{Outcome}
-use Rattle.lf_driver.specs.declared.outcome.Outcome.TheVariants as outcome
+use Rattle.lf_driver.specs.declared.outcome.Answer.{Answer}
+use Rattle.lf_driver.specs.declared.outcome.Answer.TheVariants as outcome
 use Rattle.lf_driver.specs.Source.{Tree, Source}
 use Rattle.lf_driver.specs.Built.{Building, is_name_byte, program_in}
 use Rattle.lf_driver.specs.Fortran.{IsSmall}
@@ -91,7 +91,7 @@ pub record Saved (old : Option Files) (name bytes : List ℕ) (new : Option File
   pub told : (files : Files) → old ≡ Some files → new ≡ Some (insert files name bytes)
 
 -- what comes of a file whose text was read
-abbrev pub TextComesTo : Outcome → List ℕ → List ℕ → Option Files → Option Files → Type 0
+abbrev pub TextComesTo : Answer → List ℕ → List ℕ → Option Files → Option Files → Type 0
 TextComesTo outcome.Done file text old new = (bytes : List ℕ) × Compiled text bytes × Saved old (c_name file) bytes new
 TextComesTo outcome.Usage file text old new = ⊥
 TextComesTo (outcome.Absent name) file text old new = ⊥
@@ -109,7 +109,7 @@ pub record Compiles (file : List ℕ) (files : Files) (new : Option Files) : Typ
   pub written : new ≡ Some (insert files (c_name file) bytes)
 
 -- what comes of a file of this name
-abbrev pub FileComesTo : Outcome → List ℕ → Option Files → Option Files → Type 0
+abbrev pub FileComesTo : Answer → List ℕ → Option Files → Option Files → Type 0
 FileComesTo outcome.Done file old new = Told old (λ files. Compiles file files new)
 FileComesTo outcome.Usage file old new = ⊥
 FileComesTo (outcome.Absent name) file old new = (new ≡ old) × Told old (λ files. of_file Compile file (get files file) ≡ judged.Absent name.now)

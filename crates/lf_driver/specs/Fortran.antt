@@ -6,8 +6,9 @@
 use Rattle.std.specs.Prelude.{ℕ, ◌≤◌, Bool, ◌&&◌, if◌then◌else◌, List, [], ◌++◌, codes, Option, Some, None, pos, negsuc, ◌+ℤ◌, ◌-ℤ◌, ◌*ℤ◌, int_le}
 use Rattle.std.specs.Fmt.{signed_decimal}
 use Rattle.std.proofs.Math.IntN.{ℤ}
-use Rattle.lf_base.specs.Outcome.{Place, Meaning, written}
+use Rattle.lf_base.specs.Outcome.{Location, Meaning, written}
 use Rattle.lf_base.specs.Acts.{Act, bind, give, print, trap, outcome_of}
+use Rattle.lf_base.specs.declared.trap.Trap.TheVariants.{IntegerOverflow}
 use Rattle.lf_driver.specs.declared.built.Operator.{Operator}
 use Rattle.lf_driver.specs.declared.built.Operator.TheVariants.{Add, Subtract, Multiply}
 use Rattle.lf_driver.specs.Source.{Tree, Literal, Binary, Source}
@@ -43,12 +44,12 @@ value_of (Binary operator left right) = operated operator (value_of left) (value
 abbrev pub overflow_text : List ℕ
 overflow_text = codes "lf: trap IntegerOverflow\n"
 
--- the value, or the trap at a place
-abbrev pub value_or_trap : Place → Option ℤ → Act (List ℕ) ℤ
-value_or_trap place None = trap 1 overflow_text (Some place)
-value_or_trap place (Some z) = give z
+-- the value, or the trap at a location
+abbrev pub value_or_trap : Location → Option ℤ → Act (List ℕ) ℤ
+value_or_trap location None = trap IntegerOverflow overflow_text (Some location)
+value_or_trap location (Some z) = give z
 
--- The program with its one statement, which is at this place; it reads nothing, has no loop and calls nothing.
-abbrev pub FortranMeaning : Place → Source → Meaning
-FortranMeaning place source input n d =
-    outcome_of (bind (print (codes " ")) (λ u. bind (value_or_trap place (value_of source.value)) (λ z. bind (print (signed_decimal z ++ codes "\n")) (λ v. give 0))) input (written [] []))
+-- The program with its one statement, which is at this location; it reads nothing, has no loop and calls nothing.
+abbrev pub FortranMeaning : Location → Source → Meaning
+FortranMeaning location source input n d =
+    outcome_of (bind (print (codes " ")) (λ u. bind (value_or_trap location (value_of source.value)) (λ z. bind (print (signed_decimal z ++ codes "\n")) (λ v. give 0))) input (written [] []))

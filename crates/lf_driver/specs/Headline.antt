@@ -5,7 +5,7 @@ use Rattle.std.specs.Prelude.{◌≡◌, ℕ, List, [], ◌∷◌, Option, Some,
 use Rattle.std.specs.FinMap.{get, insert}
 use Rattle.lf_base.specs.Files.{Files}
 use Rattle.lf_base.specs.Near.{Agree}
-use Rattle.lf_base.specs.Outcome.{Place}
+use Rattle.lf_base.specs.Outcome.{Location}
 use Rattle.ast_nodes.specs.declared.file.File.{File}
 use Rattle.c_nodes.specs.CMeaning.{CMeaning}
 use Rattle.c_nodes.specs.Grammar.{Spells}
@@ -20,15 +20,15 @@ use Rattle.lf_driver.specs.Verdict.{c_name}
 use Rattle.lf_driver.specs.Words.{words_of}
 use Rattle.lf_driver.specs.declared.command.Verb.TheVariants.{Compile}
 
--- the place of the one statement that is executed
-abbrev pub place_of : List ℕ → Source → Place
-place_of file source = record { source = file; line = source.line }
+-- the location of the one statement that is executed
+abbrev pub location_of : List ℕ → Source → Location
+location_of file source = record { source = file; line = source.line }
 
 -- The C file of a program is one program by itself, and that program and the source agree. A file without units is no
 -- program.
 abbrev pub IsFaithful : List ℕ → Option Source → Type 0
 IsFaithful file None = Unit {0}
-IsFaithful file (Some source) = IsProgram (lowered_file source ∷ []) × Agree (FortranMeaning (place_of file source) source) (CMeaning (lowered_file source ∷ []))
+IsFaithful file (Some source) = IsProgram (lowered_file source ∷ []) × Agree (FortranMeaning (location_of file source) source) (CMeaning (lowered_file source ∷ []))
 
 -- What a call leaves for a source that its words compile: the files of before with the C file under its name, whose bytes
 -- spell one C file, which is faithful.

@@ -8,8 +8,8 @@ use Rattle.lf_base.specs.Files.{Files}
 use Rattle.ast_nodes.specs.declared.file.File.{File}
 use Rattle.ast_nodes.specs.Text.{ast_text}
 use Rattle.lf_driver.specs.declared.command.Verb.TheVariants.{Ast}
-use Rattle.lf_driver.specs.declared.outcome.Outcome.{Outcome}
-use Rattle.lf_driver.specs.declared.outcome.Outcome.TheVariants as outcome
+use Rattle.lf_driver.specs.declared.outcome.Answer.{Answer}
+use Rattle.lf_driver.specs.declared.outcome.Answer.TheVariants as outcome
 use Rattle.lf_driver.specs.Front.{Parsed, front_of}
 use Rattle.lf_driver.specs.Verdict.{Verdict, Told, of_tree, of_file}
 use Rattle.lf_driver.specs.Verdict as judged
@@ -33,7 +33,7 @@ GainsFront (judged.Refused name line rule) old new = new ≡ old
 GainsFront (judged.Done name bytes) old new = new ≡ old
 
 -- what comes of a file whose text was read, and what the sink then holds
-abbrev pub TextShows : Outcome → List ℕ → List ℕ → Option (List ℕ) → Option (List ℕ) → Type 0
+abbrev pub TextShows : Answer → List ℕ → List ℕ → Option (List ℕ) → Option (List ℕ) → Type 0
 TextShows outcome.Done file text old new = Gains (of_tree file (front_of text)) old new
 TextShows outcome.Usage file text old new = ⊥
 TextShows (outcome.Absent name) file text old new = ⊥
@@ -43,7 +43,7 @@ TextShows outcome.WriteFault file text old new = GainsFront (of_tree file (front
 TextShows outcome.Memory file text old new = GainsFront (of_tree file (front_of text)) old new
 
 -- what comes of a file of this name
-abbrev pub FileShows : Outcome → List ℕ → Option Files → Option (List ℕ) → Option (List ℕ) → Type 0
+abbrev pub FileShows : Answer → List ℕ → Option Files → Option (List ℕ) → Option (List ℕ) → Type 0
 FileShows outcome.Done file there old new = Told there (λ files. Gains (of_file Ast file (get files file)) old new)
 FileShows outcome.Usage file there old new = ⊥
 FileShows (outcome.Absent name) file there old new = (new ≡ old) × Told there (λ files. of_file Ast file (get files file) ≡ judged.Absent name.now)

@@ -8,7 +8,7 @@ ghost use Rattle.lf_driver.specs.Ends.{Counts};
 ghost use Rattle.lf_driver.specs.Compile.{GivesC, GivesText, Saved, TextComesTo, FileComesTo};
 
 use crate::front::read_tree;
-use crate::outcome::Outcome;
+use crate::outcome::Answer;
 use crate::unit::lower;
 use ast_nodes::File;
 use c_nodes::{CFile, print_c};
@@ -101,42 +101,42 @@ fn finish_file<'a, S: Store>(
     file: &'a str,
     bytes: &[u8],
     store: &mut S,
-) -> Outcome<'a>
+) -> Answer<'a>
     requires { ends_as_source file.now ≡ true }
     ensures comes { TextComesTo result file.now bytes.now (S.files store.old) (S.files store.new) }
     ensures counts { Counts result (S.read_faults store.old) (S.read_faults store.new) (S.Sink.faults store.old) (S.Sink.faults store.new) }
 {
     match translated(alloc, bytes) {
         Ok(text) => match write_file(alloc, file, text.bytes(), store) {
-            Ok(()) => Outcome::Done,
-            Err(PutFault::Failed) => Outcome::WriteFault,
-            Err(PutFault::Memory) => Outcome::Memory,
+            Ok(()) => Answer::Done,
+            Err(PutFault::Failed) => Answer::WriteFault,
+            Err(PutFault::Memory) => Answer::Memory,
         },
-        Err(SyntaxFault::At { line, rule }) => Outcome::Refused {
+        Err(SyntaxFault::At { line, rule }) => Answer::Refused {
             name: file,
             line,
             rule,
         },
-        Err(SyntaxFault::Memory) => Outcome::Memory,
+        Err(SyntaxFault::Memory) => Answer::Memory,
     }
 }
 
 /// What comes of a file of this name. The files of the store change only where it is `Done`.
 #[tactic(auto, using(crate::proofs::Saving::too_long, crate::proofs::Saving::none_there, crate::proofs::Saving::text_there, crate::proofs::Saving::counts_after))]
-pub(crate) fn compile_file<'a, S: Store>(alloc: Global, file: &'a str, store: &mut S) -> Outcome<'a>
+pub(crate) fn compile_file<'a, S: Store>(alloc: Global, file: &'a str, store: &mut S) -> Answer<'a>
     requires { ends_as_source file.now ≡ true }
     ensures comes { FileComesTo result file.now (S.files store.old) (S.files store.new) }
     ensures counts { Counts result (S.read_faults store.old) (S.read_faults store.new) (S.Sink.faults store.old) (S.Sink.faults store.new) }
 {
     match store.read(alloc, file) {
         Ok(bytes) => finish_file(alloc, file, bytes.as_slice(), store),
-        Err(GetFault::Absent) => Outcome::Absent { name: file },
-        Err(GetFault::TooLong) => Outcome::Refused {
+        Err(GetFault::Absent) => Answer::Absent { name: file },
+        Err(GetFault::TooLong) => Answer::Refused {
             name: file,
             line: 1,
             rule: Rule::E108,
         },
-        Err(GetFault::Failed) => Outcome::ReadFault,
-        Err(GetFault::Memory) => Outcome::Memory,
+        Err(GetFault::Failed) => Answer::ReadFault,
+        Err(GetFault::Memory) => Answer::Memory,
     }
 }

@@ -6,7 +6,7 @@ ghost use Rattle.lf_driver.specs.Words.{ends_as_source, words_of, shown_by, show
 
 use crate::command::{Verb, words as read_words};
 use crate::compile::compile_file;
-use crate::outcome::{Outcome, report};
+use crate::outcome::{Answer, report};
 use crate::show::show_file;
 use lf_base::{Sink, Source, Store};
 use std::alloc::Global;
@@ -19,7 +19,7 @@ fn do_file<'a, S: Store, O: Sink>(
     file: &'a str,
     store: &mut S,
     out: &mut O,
-) -> Outcome<'a>
+) -> Answer<'a>
     requires { ends_as_source file.now ≡ true }
     ensures comes { VerbComesTo result verb file.now (S.files store.old) (S.files store.new) (O.contents out.old) (O.contents out.new) }
     ensures counts { CountsAll result (S.read_faults store.old) (S.read_faults store.new) (S.Sink.faults store.old) (S.Sink.faults store.new) (O.faults out.old) (O.faults out.new) }
@@ -39,16 +39,16 @@ fn perform<'a, S: Store, O: Sink>(
     words: &'a [String],
     store: &mut S,
     out: &mut O,
-) -> Outcome<'a>
+) -> Answer<'a>
     ensures comes { ComesTo result (map string_bytes words.now) (S.files store.old) (S.files store.new) (O.contents out.old) (O.contents out.new) }
     ensures counts { CountsAll result (S.read_faults store.old) (S.read_faults store.new) (S.Sink.faults store.old) (S.Sink.faults store.new) (O.faults out.old) (O.faults out.new) }
     ensures out { shows (words_of (map string_bytes words.now)) ≡ false → out.new ≡ out.old }
 {
     match read_words(words) {
-        Err(_) => Outcome::Usage,
+        Err(_) => Answer::Usage,
         Ok(command) => match command.files {
             [file, ..] => do_file(alloc, command.verb, file.as_str(), store, out),
-            [] => Outcome::Usage,
+            [] => Answer::Usage,
         },
     }
 }

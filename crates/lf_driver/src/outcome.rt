@@ -11,7 +11,7 @@ use lf_base::{PutFault, Rule, Sink};
 
 /// What a call has come to.
 #[derive(Clone, Copy)]
-pub(crate) enum Outcome<'a> {
+pub(crate) enum Answer<'a> {
     Done,
     Usage,
     /// The store has no file of the name.
@@ -89,40 +89,40 @@ fn put_nothing<O: Sink>(before: Ended, out: &mut O) -> Ended
     before
 }
 
-fn put_text<O: Sink>(before: Ended, out: &mut O, outcome: Outcome) -> Ended
+fn put_text<O: Sink>(before: Ended, out: &mut O, outcome: Answer) -> Ended
     ensures text { Puts before result (O.contents out.old) (O.contents out.new) (text_of outcome.entry) }
     ensures cause { Causes before result (O.faults out.old) (O.faults out.new) }
 {
     match outcome {
-        Outcome::Done => put_nothing(before, out),
-        Outcome::Usage => put(before, out, b"lf: usage: COMMAND [--turns=N] FILE ...\n"),
-        Outcome::Absent { name } => put_absent(before, out, name.as_bytes()),
-        Outcome::Refused { name, line, rule } => put_refused(
+        Answer::Done => put_nothing(before, out),
+        Answer::Usage => put(before, out, b"lf: usage: COMMAND [--turns=N] FILE ...\n"),
+        Answer::Absent { name } => put_absent(before, out, name.as_bytes()),
+        Answer::Refused { name, line, rule } => put_refused(
             before,
             out,
             name.as_bytes(),
             line,
             rule,
         ),
-        Outcome::ReadFault => put(before, out, b"lf: read fault\n"),
-        Outcome::WriteFault => put(before, out, b"lf: write fault\n"),
-        Outcome::Memory => put(before, out, b"lf: out of memory\n"),
+        Answer::ReadFault => put(before, out, b"lf: read fault\n"),
+        Answer::WriteFault => put(before, out, b"lf: write fault\n"),
+        Answer::Memory => put(before, out, b"lf: out of memory\n"),
     }
 }
 
 // Tells what came. Where that can't be written, the fault that this is is told in its place.
 #[tactic(auto, using(crate::proofs::Tellings::tellings))]
-fn tell<E: Sink>(err: &mut E, outcome: Outcome) -> Result<(), PutFault>
+fn tell<E: Sink>(err: &mut E, outcome: Answer) -> Result<(), PutFault>
     ensures { TellsOr outcome.entry result (E.contents err.old) (E.contents err.new) (E.faults err.old) (E.faults err.new) }
 {
     match put_text(Ok(()), err, outcome) {
         Ok(()) => Ok(()),
         Err(PutFault::Failed) => {
-            let _ = put_text(Ok(()), err, Outcome::WriteFault);
+            let _ = put_text(Ok(()), err, Answer::WriteFault);
             Err(PutFault::Failed)
         }
         Err(PutFault::Memory) => {
-            let _ = put_text(Ok(()), err, Outcome::Memory);
+            let _ = put_text(Ok(()), err, Answer::Memory);
             Err(PutFault::Memory)
         }
     }
@@ -131,45 +131,45 @@ fn tell<E: Sink>(err: &mut E, outcome: Outcome) -> Result<(), PutFault>
 /// Tells on the sink what a call has come to, and answers what it comes to by that. The text of a fault is
 /// tried once.
 #[tactic(auto, using(crate::proofs::Tellings::tellings))]
-pub(crate) fn report<'a, E: Sink>(err: &mut E, outcome: Outcome<'a>) -> Outcome<'a>
+pub(crate) fn report<'a, E: Sink>(err: &mut E, outcome: Answer<'a>) -> Answer<'a>
     ensures { Reports outcome.entry result (E.contents err.old) (E.contents err.new) (E.faults err.old) (E.faults err.new) }
 {
     match outcome {
-        Outcome::Done => Outcome::Done,
-        Outcome::Usage => match tell(err, outcome) {
-            Ok(()) => Outcome::Usage,
-            Err(PutFault::Failed) => Outcome::WriteFault,
-            Err(PutFault::Memory) => Outcome::Memory,
+        Answer::Done => Answer::Done,
+        Answer::Usage => match tell(err, outcome) {
+            Ok(()) => Answer::Usage,
+            Err(PutFault::Failed) => Answer::WriteFault,
+            Err(PutFault::Memory) => Answer::Memory,
         },
-        Outcome::Absent { name } => match tell(err, outcome) {
-            Ok(()) => Outcome::Absent { name },
-            Err(PutFault::Failed) => Outcome::WriteFault,
-            Err(PutFault::Memory) => Outcome::Memory,
+        Answer::Absent { name } => match tell(err, outcome) {
+            Ok(()) => Answer::Absent { name },
+            Err(PutFault::Failed) => Answer::WriteFault,
+            Err(PutFault::Memory) => Answer::Memory,
         },
-        Outcome::Refused { name, line, rule } => match tell(err, outcome) {
-            Ok(()) => Outcome::Refused { name, line, rule },
-            Err(PutFault::Failed) => Outcome::WriteFault,
-            Err(PutFault::Memory) => Outcome::Memory,
+        Answer::Refused { name, line, rule } => match tell(err, outcome) {
+            Ok(()) => Answer::Refused { name, line, rule },
+            Err(PutFault::Failed) => Answer::WriteFault,
+            Err(PutFault::Memory) => Answer::Memory,
         },
-        Outcome::ReadFault | Outcome::WriteFault | Outcome::Memory => {
+        Answer::ReadFault | Answer::WriteFault | Answer::Memory => {
             let _ = put_text(Ok(()), err, outcome);
             outcome
         }
     }
 }
 
-impl Outcome<'_> {
+impl Answer<'_> {
     /// The status of the program.
     pub(crate) fn status(&self) -> u8
         ensures { result ≡ status_of self.now }
     {
         match self {
-            Outcome::Done => 0,
-            Outcome::Refused { .. } => 1,
-            Outcome::Usage | Outcome::Absent { .. } => 2,
-            Outcome::ReadFault => 3,
-            Outcome::WriteFault => 4,
-            Outcome::Memory => 5,
+            Answer::Done => 0,
+            Answer::Refused { .. } => 1,
+            Answer::Usage | Answer::Absent { .. } => 2,
+            Answer::ReadFault => 3,
+            Answer::WriteFault => 4,
+            Answer::Memory => 5,
         }
     }
 }

@@ -5,7 +5,7 @@ ghost use Rattle.lf_driver.specs.Front.{front_of};
 ghost use Rattle.lf_driver.specs.Show.{GivesTree, TextShows, FileShows};
 
 use crate::front::read_tree;
-use crate::outcome::Outcome;
+use crate::outcome::Answer;
 use ast_nodes::{File, print_ast};
 use lf_base::{GetFault, Memory, PutFault, Rule, Sink, Store, SureSink, SyntaxFault};
 use std::alloc::Global;
@@ -35,22 +35,22 @@ fn tree_text(alloc: Global, source: &[u8]) -> Result<SureSink, SyntaxFault>
 
 // What comes of a file whose text was read. The whole text is put at once, and only where it could be made.
 #[tactic(auto, using(crate::proofs::Showing::tree_shown, crate::proofs::Showing::front_shown, crate::proofs::Showing::tree_refused, crate::proofs::Showing::no_gain))]
-fn show_text<'a, O: Sink>(alloc: Global, file: &'a str, source: &[u8], out: &mut O) -> Outcome<'a>
+fn show_text<'a, O: Sink>(alloc: Global, file: &'a str, source: &[u8], out: &mut O) -> Answer<'a>
     ensures shows { TextShows result file.now source.now (O.contents out.old) (O.contents out.new) }
     ensures counts { Counts result 0 0 (O.faults out.old) (O.faults out.new) }
 {
     match tree_text(alloc, source) {
         Ok(text) => match out.put(text.bytes()) {
-            Ok(()) => Outcome::Done,
-            Err(PutFault::Failed) => Outcome::WriteFault,
-            Err(PutFault::Memory) => Outcome::Memory,
+            Ok(()) => Answer::Done,
+            Err(PutFault::Failed) => Answer::WriteFault,
+            Err(PutFault::Memory) => Answer::Memory,
         },
-        Err(SyntaxFault::At { line, rule }) => Outcome::Refused {
+        Err(SyntaxFault::At { line, rule }) => Answer::Refused {
             name: file,
             line,
             rule,
         },
-        Err(SyntaxFault::Memory) => Outcome::Memory,
+        Err(SyntaxFault::Memory) => Answer::Memory,
     }
 }
 
@@ -61,7 +61,7 @@ pub(crate) fn show_file<'a, S: Store, O: Sink>(
     file: &'a str,
     store: &mut S,
     out: &mut O,
-) -> Outcome<'a>
+) -> Answer<'a>
     ensures shows { FileShows result file.now (S.files store.old) (O.contents out.old) (O.contents out.new) }
     ensures files { S.files store.new ≡ S.files store.old }
     ensures writes { S.Sink.faults store.new ≡ S.Sink.faults store.old }
@@ -69,13 +69,13 @@ pub(crate) fn show_file<'a, S: Store, O: Sink>(
 {
     match store.read(alloc, file) {
         Ok(bytes) => show_text(alloc, file, bytes.as_slice(), out),
-        Err(GetFault::Absent) => Outcome::Absent { name: file },
-        Err(GetFault::TooLong) => Outcome::Refused {
+        Err(GetFault::Absent) => Answer::Absent { name: file },
+        Err(GetFault::TooLong) => Answer::Refused {
             name: file,
             line: 1,
             rule: Rule::E108,
         },
-        Err(GetFault::Failed) => Outcome::ReadFault,
-        Err(GetFault::Memory) => Outcome::Memory,
+        Err(GetFault::Failed) => Answer::ReadFault,
+        Err(GetFault::Memory) => Answer::Memory,
     }
 }

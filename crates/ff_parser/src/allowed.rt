@@ -3,7 +3,7 @@ ghost use Rattle.std.specs.Prelude.{◌≡◌};
 ghost use Rattle.ff_parser.specs.Pieces.{is_return, returns_alone};
 ghost use Rattle.ff_parser.specs.Allowed.{takes_uses, takes_declarations, takes_statements, takes_procedures, is_procedure, is_module, closes, in_scope, has_items, in_definition, has_block, takes_arm, takes_case, closes_construct, in_construct, begins_unit, is_allowed};
 
-use crate::nest::{Definition, ScopeKind, Level, Nest, Parts, Scope, Stage};
+use crate::nest::{Definition, Level, Nest, Parts, Scope, ScopeKind, Stage};
 use ast_nodes::Statement;
 use ff_forms::{End, Form};
 use sqlite_items::Items;

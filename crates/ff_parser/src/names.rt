@@ -4,7 +4,7 @@ ghost use Rattle.std.specs.Option.{option_copied};
 ghost use Rattle.ff_parser.specs.Pieces.{agrees};
 ghost use Rattle.ff_parser.specs.Names.{name_of, name_of_definition, said, own_name, is_named, begins_construct, is_full};
 
-use crate::nest::{Definition, ScopeKind, Nest};
+use crate::nest::{Definition, Nest, ScopeKind};
 use ff_forms::Form;
 use lf_base::Name;
 

@@ -3,7 +3,7 @@ ghost use Rattle.std.specs.Prelude.{◌≡◌, [], ◌∷◌, ◌++◌, Some, No
 ghost use Rattle.ff_parser.specs.Pieces.{unit_of, procedure_of};
 ghost use Rattle.ff_parser.specs.Taken.{begun, from_outside, declared, executed, host_of, entered, resumed, closed, level, level_of, opened_in_scope, begun_in_scope, from_scope};
 
-use crate::nest::{Definition, Header, Host, ScopeKind, Level, Nest, Parts, Scope, Stage};
+use crate::nest::{Definition, Header, Host, Level, Nest, Parts, Scope, ScopeKind, Stage};
 use crate::stack::Stack;
 use ast_nodes::{Decl, Expr, Procedure, Statement, Unit};
 use ff_forms::Form;

@@ -57,13 +57,13 @@ module _ {S S' B B' : Type 0} (W : Owed) (P : Option Location → Option Locatio
   tested_there zero (suc n') le test body whole g h k s s' w q =
       subst (λ z. Below W P (Exited Q L out) z (iterate (suc n') (give true) whole s' w)) (sym (after_half cut cut (test s w)))
       (below_bind W P Q (Left W P Q (OrOut Q L out)) (Exited Q L out) (once test cut) whole (after cut) (next_or (iterate n' (give true) whole)) k
-        (next_there cut (iterate n' (give true) whole) (λ t t' v r. grows_forever n' whole g t' v))
-        (grows_next (iterate n' (give true) whole) (grows_forever n' whole g)) s s' w q)
+      (next_there cut (iterate n' (give true) whole) (λ t t' v r. grows_forever n' whole g t' v))
+      (grows_next (iterate n' (give true) whole) (grows_forever n' whole g)) s s' w q)
   tested_there (suc n) (suc n') le test body whole g h k s s' w q =
       subst (λ z. Below W P (Exited Q L out) z (iterate (suc n') (give true) whole s' w)) (sym (after_half body (iterate n test body) (test s w)))
       (below_bind W P Q (Left W P Q (OrOut Q L out)) (Exited Q L out) (once test body) whole (after (iterate n test body)) (next_or (iterate n' (give true) whole)) h
-        (next_there (iterate n test body) (iterate n' (give true) whole) (tested_there n n' (omega arith) test body whole g h k))
-        (grows_next (iterate n' (give true) whole) (grows_forever n' whole g)) s s' w q)
+      (next_there (iterate n test body) (iterate n' (give true) whole) (tested_there n n' (omega arith) test body whole g h k))
+      (grows_next (iterate n' (give true) whole) (grows_forever n' whole g)) s s' w q)
 
   -- the arm of a turn in which the test holds
   pub mapped_there : (x : Stretch S (Option B)) (y : Stretch S' (Option B')) → Below W P (Left W P Q L) x y → Below W P (Left W P Q (OrOut Q L out)) (then_do x (λ o. give (left_with o))) y
@@ -114,8 +114,8 @@ module _ {S S' B B' : Type 0} (W : Owed) (P : Option Location → Option Locatio
   tested_back (suc n) (suc n') le whole test' body' gt gb h s s' w q =
       subst (λ z. Below W P (Entered Q L out) (iterate (suc n) (give true) whole s w) z) (sym (after_half body' (iterate n' test' body') (test' s' w)))
       (below_bind W P Q (Left W P Q (OrIn Q L out)) (Entered Q L out) whole (once test' body') (next_or (iterate n (give true) whole)) (after (iterate n' test' body')) h
-        (next_back (iterate n (give true) whole) (iterate n' test' body') (tested_back n n' (omega arith) whole test' body' gt gb h))
-        (grows_after (iterate n' test' body') (grows_iterate n' test' body' gt gb)) s s' w q)
+      (next_back (iterate n (give true) whole) (iterate n' test' body') (tested_back n n' (omega arith) whole test' body' gt gb h))
+      (grows_after (iterate n' test' body') (grows_iterate n' test' body' gt gb)) s s' w q)
 
   left_back : (o : Option B) (s : S) (o' : Option B') (s' : S') → Left W P Q L o s o' s' → Left W P Q (OrIn Q L out) o s (left_with o') s'
   left_back None s None s' r = r

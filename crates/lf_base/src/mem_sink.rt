@@ -10,7 +10,7 @@ use crate::sure_sink::SureSink;
 use std::alloc::Global;
 use std::marker::Model;
 
-/// A sink in memory, whose calls with the listed numbers fail. Calls are numbered from 0.
+/// A sink in memory, whose calls with the listed numbers fail and write nothing. Calls are numbered from 0.
 #[derive(Drop)]
 pub struct MemSink {
     sink: SureSink,
@@ -64,6 +64,7 @@ impl Sink for MemSink {
         ensures cause { HasCause self.old.faults self.new.faults result }
         ensures failed { (result ≡ Err PutFault.Failed) ↔ Contains self.old.calls.fails self.old.calls.next }
         ensures next { self.new.calls.next ≡ min (self.old.calls.next + 1) (2 ^ 64 - 1) }
+        ensures nothing { (result ≡ Err PutFault.Failed) → self.new.bytes ≡ self.old.bytes }
     {
         if self.calls.take() {
             self.faults = self.faults.saturating_add(1);

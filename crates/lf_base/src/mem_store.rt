@@ -88,6 +88,7 @@ impl Sink for MemStore {
         ensures cause { HasCause (mem_faults self.old) (mem_faults self.new) result }
         ensures failed { (result ≡ Err PutFault.Failed) ↔ Contains (mem_calls self.old).fails (mem_calls self.old).next }
         ensures next { (mem_calls self.new).next ≡ min ((mem_calls self.old).next + 1) (2 ^ 64 - 1) }
+        ensures nothing { (result ≡ Err PutFault.Failed) → mem_contents self.new ≡ mem_contents self.old }
     {
         if self.refuse() {
             return Err(PutFault::Failed);

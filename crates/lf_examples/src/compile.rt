@@ -73,17 +73,18 @@ lf_trap(7, (unsigned char *)\"EndOfFile\");
 }
 ";
 
+const SUMS: [(&str, &str); 2] = [
+    ("program p\nprint *, 2+3*4\nend program p\n", SUM),
+    (
+        "\n program deep\n\tprint*,1 - 2*3-4\n\nend program",
+        DIFFERENCES,
+    ),
+];
+
 #[test]
 fn a_program_becomes_its_c_file(rt: HostRuntime) -> Result<(), Fail> {
     let alloc = rt.alloc();
-    let cases = [
-        ("program p\nprint *, 2+3*4\nend program p\n", SUM),
-        (
-            "\n program deep\n\tprint*,1 - 2*3-4\n\nend program",
-            DIFFERENCES,
-        ),
-    ];
-    for (source, behind) in cases {
+    for (source, behind) in SUMS {
         let left = ran(
             alloc,
             &["compile", "x/p1.f90"],
@@ -116,116 +117,119 @@ fn answers(rt: &impl Abort, alloc: Global, cases: &[(&str, u8, &str)]) -> Result
     Ok(())
 }
 
+const SPELLINGS: [(&str, u8, &str); 9] = [
+    ("program p\nprint *, 2+3*4\nend program p\n", 0, ""),
+    ("program p\nprint *, 2147483647\nend program\n", 0, ""),
+    (
+        "program p_1\nprint *, 00000000000000000001\nend program p_1\n",
+        0,
+        "",
+    ),
+    ("program p\nprint *, 1\nend\n", 0, ""),
+    ("PROGRAM P\nPrint *, 1_4\nEnd Program p\n", 0, ""),
+    ("program p\r\nprint *, 1\r\nend program\r\n", 0, ""),
+    (
+        "program p; print *, 2 & ! two\n\n  & + 3; endprogram p\n",
+        0,
+        "",
+    ),
+    ("program p\nprint *, 1\ncontains\nend\n", 0, ""),
+    ("! nothing\n\n", 0, ""),
+];
+
 #[test]
 fn any_spelling_is_compiled(rt: HostRuntime) -> Result<(), Fail> {
-    let cases = [
-        ("program p\nprint *, 2+3*4\nend program p\n", 0, ""),
-        ("program p\nprint *, 2147483647\nend program\n", 0, ""),
-        (
-            "program p_1\nprint *, 00000000000000000001\nend program p_1\n",
-            0,
-            "",
-        ),
-        ("program p\nprint *, 1\nend\n", 0, ""),
-        ("PROGRAM P\nPrint *, 1_4\nEnd Program p\n", 0, ""),
-        ("program p\r\nprint *, 1\r\nend program\r\n", 0, ""),
-        (
-            "program p; print *, 2 & ! two\n\n  & + 3; endprogram p\n",
-            0,
-            "",
-        ),
-        ("program p\nprint *, 1\ncontains\nend\n", 0, ""),
-        ("! nothing\n\n", 0, ""),
-    ];
-    answers(&rt, rt.alloc(), &cases)
+    answers(&rt, rt.alloc(), &SPELLINGS)
 }
+
+const UNBUILT: [(&str, u8, &str); 18] = [
+    (
+        "program p\nprint *, 2+3*2147483648\nend\n",
+        1,
+        "p1.f90:2: E202\n",
+    ),
+    ("program p\nprint *, 1_8\nend\n", 1, "p1.f90:2: E202\n"),
+    ("program p\nprint *, -1\nend\n", 1, "p1.f90:2: E202\n"),
+    ("program p\nprint *, (1)\nend\n", 1, "p1.f90:2: E202\n"),
+    ("program p\nprint *, 1/1\nend\n", 1, "p1.f90:2: E202\n"),
+    ("program p\nprint *, x\nend\n", 1, "p1.f90:2: E202\n"),
+    ("program p\nprint *, 1, 2\nend\n", 1, "p1.f90:2: E202\n"),
+    ("program p\nprint *\nend\n", 1, "p1.f90:2: E202\n"),
+    ("program p\nprint '(I0)', 1\nend\n", 1, "p1.f90:2: E202\n"),
+    (
+        "program p\n\nprint *, 1\nprint *, 2\nend\n",
+        1,
+        "p1.f90:4: E202\n",
+    ),
+    (
+        "program p\nprint *, 1; print *, -2\nend\n",
+        1,
+        "p1.f90:2: E202\n",
+    ),
+    ("program p\nx = 1\nprint *, 1\nend\n", 1, "p1.f90:2: E202\n"),
+    ("program p\nprint *, 1\nx = 1\nend\n", 1, "p1.f90:3: E202\n"),
+    ("\nprogram p\nend program p\n", 1, "p1.f90:2: E202\n"),
+    (
+        "program p\ninteger :: x\nprint *, 1\nend\n",
+        1,
+        "p1.f90:2: E202\n",
+    ),
+    (
+        "program p\nprint *, 1\ncontains\nsubroutine s\nend\nend\n",
+        1,
+        "p1.f90:4: E202\n",
+    ),
+    ("module m\nend module m\n", 1, "p1.f90:1: E202\n"),
+    (
+        "program p\nprint *, 1\nend\nmodule m\nend\n",
+        1,
+        "p1.f90:4: E202\n",
+    ),
+];
 
 #[test]
 fn a_form_that_is_not_built_is_told_at_its_line(rt: HostRuntime) -> Result<(), Fail> {
-    let cases = [
-        (
-            "program p\nprint *, 2+3*2147483648\nend\n",
-            1,
-            "p1.f90:2: E202\n",
-        ),
-        ("program p\nprint *, 1_8\nend\n", 1, "p1.f90:2: E202\n"),
-        ("program p\nprint *, -1\nend\n", 1, "p1.f90:2: E202\n"),
-        ("program p\nprint *, (1)\nend\n", 1, "p1.f90:2: E202\n"),
-        ("program p\nprint *, 1/1\nend\n", 1, "p1.f90:2: E202\n"),
-        ("program p\nprint *, x\nend\n", 1, "p1.f90:2: E202\n"),
-        ("program p\nprint *, 1, 2\nend\n", 1, "p1.f90:2: E202\n"),
-        ("program p\nprint *\nend\n", 1, "p1.f90:2: E202\n"),
-        ("program p\nprint '(I0)', 1\nend\n", 1, "p1.f90:2: E202\n"),
-        (
-            "program p\n\nprint *, 1\nprint *, 2\nend\n",
-            1,
-            "p1.f90:4: E202\n",
-        ),
-        (
-            "program p\nprint *, 1; print *, -2\nend\n",
-            1,
-            "p1.f90:2: E202\n",
-        ),
-        ("program p\nx = 1\nprint *, 1\nend\n", 1, "p1.f90:2: E202\n"),
-        ("program p\nprint *, 1\nx = 1\nend\n", 1, "p1.f90:3: E202\n"),
-        ("\nprogram p\nend program p\n", 1, "p1.f90:2: E202\n"),
-        (
-            "program p\ninteger :: x\nprint *, 1\nend\n",
-            1,
-            "p1.f90:2: E202\n",
-        ),
-        (
-            "program p\nprint *, 1\ncontains\nsubroutine s\nend\nend\n",
-            1,
-            "p1.f90:4: E202\n",
-        ),
-        ("module m\nend module m\n", 1, "p1.f90:1: E202\n"),
-        (
-            "program p\nprint *, 1\nend\nmodule m\nend\n",
-            1,
-            "p1.f90:4: E202\n",
-        ),
-    ];
-    answers(&rt, rt.alloc(), &cases)
+    answers(&rt, rt.alloc(), &UNBUILT)
 }
+
+const PHASES: [(&str, u8, &str); 10] = [
+    // bytes that begin no token, wherever they are, before statements in no form
+    ("program _p\nprint *, 1\nend\n", 1, "p1.f90:1: E101\n"),
+    (
+        "print *,\nprogram p\nend program $\n",
+        1,
+        "p1.f90:3: E101\n",
+    ),
+    // statements in no form or out of place before forms that are not built
+    (
+        "program p\nprint *, x\nprint *,\nend\n",
+        1,
+        "p1.f90:3: E201\n",
+    ),
+    (
+        "print *, 1\nprogram p\nend program (\n",
+        1,
+        "p1.f90:1: E203\n",
+    ),
+    ("program\nprint *, 1\nend\n", 1, "p1.f90:1: E201\n"),
+    ("program p q\nprint *, 1\nend\n", 1, "p1.f90:1: E201\n"),
+    ("program p\nprint *, 1 +\nend\n", 1, "p1.f90:2: E201\n"),
+    (
+        "program p\nprint *, 1\nend program q\n",
+        1,
+        "p1.f90:3: E205\n",
+    ),
+    (
+        "program p\nprint *, 1\nend program p\n\nprint *, 2\n",
+        1,
+        "p1.f90:5: E203\n",
+    ),
+    ("\n\n\nprogram p\n", 1, "p1.f90:4: E204\n"),
+];
 
 #[test]
 fn each_phase_comes_before_the_next(rt: HostRuntime) -> Result<(), Fail> {
-    let cases = [
-        // bytes that begin no token, wherever they are, before statements in no form
-        ("program _p\nprint *, 1\nend\n", 1, "p1.f90:1: E101\n"),
-        (
-            "print *,\nprogram p\nend program $\n",
-            1,
-            "p1.f90:3: E101\n",
-        ),
-        // statements in no form or out of place before forms that are not built
-        (
-            "program p\nprint *, x\nprint *,\nend\n",
-            1,
-            "p1.f90:3: E201\n",
-        ),
-        (
-            "print *, 1\nprogram p\nend program (\n",
-            1,
-            "p1.f90:1: E203\n",
-        ),
-        ("program\nprint *, 1\nend\n", 1, "p1.f90:1: E201\n"),
-        ("program p q\nprint *, 1\nend\n", 1, "p1.f90:1: E201\n"),
-        ("program p\nprint *, 1 +\nend\n", 1, "p1.f90:2: E201\n"),
-        (
-            "program p\nprint *, 1\nend program q\n",
-            1,
-            "p1.f90:3: E205\n",
-        ),
-        (
-            "program p\nprint *, 1\nend program p\n\nprint *, 2\n",
-            1,
-            "p1.f90:5: E203\n",
-        ),
-        ("\n\n\nprogram p\n", 1, "p1.f90:4: E204\n"),
-    ];
-    answers(&rt, rt.alloc(), &cases)
+    answers(&rt, rt.alloc(), &PHASES)
 }
 
 #[test]
@@ -255,16 +259,17 @@ fn long_source(alloc: Global, ones: usize, letters: usize) -> Result<Vec<u8>, Al
     Ok(source)
 }
 
+const LIMITS: [(usize, usize, u8, &str); 3] = [
+    (62, 63, 0, ""),
+    (63, 63, 1, "p1.f90:2: E103\n"),
+    (62, 64, 1, "p1.f90:1: E105\n"),
+];
+
 #[test]
 fn lines_and_names_have_limits(rt: HostRuntime) -> Result<(), Fail> {
     let alloc = rt.alloc();
     // 8 bytes and 62 times 2 make a line of 132
-    let cases = [
-        (62, 63, 0, ""),
-        (63, 63, 1, "p1.f90:2: E103\n"),
-        (62, 64, 1, "p1.f90:1: E105\n"),
-    ];
-    for (ones, letters, status, told) in cases {
+    for (ones, letters, status, told) in LIMITS {
         let source = long_source(alloc, ones, letters)?;
         let left = ran(alloc, &["compile", "p1.f90"], "p1.f90", source.as_slice())?;
         assert_eq!(rt; left.status, status, "at {ones}");
@@ -275,24 +280,25 @@ fn lines_and_names_have_limits(rt: HostRuntime) -> Result<(), Fail> {
 
 const USAGE: &str = "lf: usage: COMMAND [--turns=N] FILE ...\n";
 
+const OTHER_WORDS: [(&[&str], &str); 12] = [
+    (&["compile", "a.txt"], USAGE),
+    (&["compile"], USAGE),
+    (&[], USAGE),
+    (&["p1.f90"], USAGE),
+    (&["compile", "-p.f90"], USAGE),
+    (&["compile", "p1.f90", "p1.f90"], USAGE),
+    (&["ast"], USAGE),
+    (&["ast", "p1.f90", "p1.f90"], USAGE),
+    (&["verify", "p1.f90"], USAGE),
+    (&["ast", "q.f90"], "lf: no such file: q.f90\n"),
+    (&["compile", "q.f90"], "lf: no such file: q.f90\n"),
+    (&["compile", ".f90"], "lf: no such file: .f90\n"),
+];
+
 #[test]
 fn other_words_are_refused(rt: HostRuntime) -> Result<(), Fail> {
     let alloc = rt.alloc();
-    let cases: [(&[&str], &str); 12] = [
-        (&["compile", "a.txt"], USAGE),
-        (&["compile"], USAGE),
-        (&[], USAGE),
-        (&["p1.f90"], USAGE),
-        (&["compile", "-p.f90"], USAGE),
-        (&["compile", "p1.f90", "p1.f90"], USAGE),
-        (&["ast"], USAGE),
-        (&["ast", "p1.f90", "p1.f90"], USAGE),
-        (&["verify", "p1.f90"], USAGE),
-        (&["ast", "q.f90"], "lf: no such file: q.f90\n"),
-        (&["compile", "q.f90"], "lf: no such file: q.f90\n"),
-        (&["compile", ".f90"], "lf: no such file: .f90\n"),
-    ];
-    for (words, told) in cases {
+    for (words, told) in OTHER_WORDS {
         let left = ran(
             alloc,
             words,
@@ -306,18 +312,19 @@ fn other_words_are_refused(rt: HostRuntime) -> Result<(), Fail> {
     Ok(())
 }
 
+const STORE_FAULTS: [(u64, u8, &str); 5] = [
+    (0, 3, "lf: read fault\n"),
+    (1, 4, "lf: write fault\n"),
+    (2, 4, "lf: write fault\n"),
+    (3, 4, "lf: write fault\n"),
+    (4, 0, ""),
+];
+
 #[test]
 fn faults_of_the_store_are_told(rt: HostRuntime) -> Result<(), Fail> {
     let alloc = rt.alloc();
     // the read, the start, the put and the finish
-    let cases = [
-        (0, 3, "lf: read fault\n"),
-        (1, 4, "lf: write fault\n"),
-        (2, 4, "lf: write fault\n"),
-        (3, 4, "lf: write fault\n"),
-        (4, 0, ""),
-    ];
-    for (call, status, told) in cases {
+    for (call, status, told) in STORE_FAULTS {
         let mut files = Vec::new(alloc);
         let source = Vec::from_slice(alloc, b"program p\nprint *, 1\nend program p\n")?;
         files.push((String::from_str(alloc, "p1.f90")?, source))?;

@@ -3,120 +3,125 @@ use std::alloc::{AllocError, Global};
 use std::process::Abort;
 use std::test::Fail;
 
+const UNFORMED: [(&str, &str); 22] = [
+    ("x = ab&\ncd", "2: E201"),
+    ("elseif", "2: E201"),
+    ("use :: m, only: a", "2: E201"),
+    ("10 format (x)", "2: E201"),
+    ("if (x) goto 10", "2: E201"),
+    ("integer, pointer :: p", "2: E201"),
+    ("do concurrent (i = 1:2)", "2: E202"),
+    ("c: do concurrent (i = 1:2)", "2: E202"),
+    ("real :: x", "2: E202"),
+    ("c: where (x)", "2: E202"),
+    ("real(kind=4) = 2", "2: E202"),
+    ("x(kind=4) = 2", "2: E201"),
+    ("integer a()", "2: E201"),
+    ("x = []", "2: E201"),
+    ("x = (//)", "2: E201"),
+    ("case ()", "2: E201"),
+    ("print *,", "2: E201"),
+    ("integer : : x", "2: E201"),
+    ("integer x = 1", "2: E201"),
+    ("integer(4_4) x", "2: E201"),
+    ("contains\nelseif", "3: E201"),
+    ("c: x = 1", "2: E201"),
+];
+
 #[test]
 fn statements_in_no_form_are_told(rt: HostRuntime) -> Result<(), Fail> {
-    let cases = [
-        ("x = ab&\ncd", "2: E201"),
-        ("elseif", "2: E201"),
-        ("use :: m, only: a", "2: E201"),
-        ("10 format (x)", "2: E201"),
-        ("if (x) goto 10", "2: E201"),
-        ("integer, pointer :: p", "2: E201"),
-        ("do concurrent (i = 1:2)", "2: E202"),
-        ("c: do concurrent (i = 1:2)", "2: E202"),
-        ("real :: x", "2: E202"),
-        ("c: where (x)", "2: E202"),
-        ("real(kind=4) = 2", "2: E202"),
-        ("x(kind=4) = 2", "2: E201"),
-        ("integer a()", "2: E201"),
-        ("x = []", "2: E201"),
-        ("x = (//)", "2: E201"),
-        ("case ()", "2: E201"),
-        ("print *,", "2: E201"),
-        ("integer : : x", "2: E201"),
-        ("integer x = 1", "2: E201"),
-        ("integer(4_4) x", "2: E201"),
-        ("contains\nelseif", "3: E201"),
-        ("c: x = 1", "2: E201"),
-    ];
-    refuses_lines(&rt, rt.alloc(), &cases)
+    refuses_lines(&rt, rt.alloc(), &UNFORMED)
 }
+
+const UNFORMED_PARTS: [(&str, &str); 19] = [
+    ("x = 1 +", "2: E201"),
+    ("x = 2 ** -1", "2: E201"),
+    ("x = 1 * -2", "2: E201"),
+    ("x = 1 - -2", "2: E201"),
+    ("x = a == b == c", "2: E201"),
+    ("x = .not. .not. a", "2: E201"),
+    ("x = a .and. (b", "2: E201"),
+    ("x = a(1)(2", "2: E201"),
+    ("x = a(1,)", "2: E201"),
+    ("x = (i = 1, 2)", "2: E201"),
+    ("c: if (a) x = 1", "2: E201"),
+    ("if (a) if (b) x = 1", "2: E201"),
+    ("if (a) do", "2: E201"),
+    ("read (*, '(A)') (x)", "2: E201"),
+    ("write (*, *, advance='no') 1", "2: E201"),
+    ("print '(A)', a, b", "2: E201"),
+    ("print '(A)', (a, i = 1, 2)", "2: E201"),
+    ("print '(F5.1)', a", "2: E201"),
+    ("integer subroutine s", "2: E201"),
+];
 
 #[test]
 fn expressions_and_actions_in_no_form_are_told(rt: HostRuntime) -> Result<(), Fail> {
-    let cases = [
-        ("x = 1 +", "2: E201"),
-        ("x = 2 ** -1", "2: E201"),
-        ("x = 1 * -2", "2: E201"),
-        ("x = 1 - -2", "2: E201"),
-        ("x = a == b == c", "2: E201"),
-        ("x = .not. .not. a", "2: E201"),
-        ("x = a .and. (b", "2: E201"),
-        ("x = a(1)(2", "2: E201"),
-        ("x = a(1,)", "2: E201"),
-        ("x = (i = 1, 2)", "2: E201"),
-        ("c: if (a) x = 1", "2: E201"),
-        ("if (a) if (b) x = 1", "2: E201"),
-        ("if (a) do", "2: E201"),
-        ("read (*, '(A)') (x)", "2: E201"),
-        ("write (*, *, advance='no') 1", "2: E201"),
-        ("print '(A)', a, b", "2: E201"),
-        ("print '(A)', (a, i = 1, 2)", "2: E201"),
-        ("print '(F5.1)', a", "2: E201"),
-        ("integer subroutine s", "2: E201"),
-    ];
-    refuses_lines(&rt, rt.alloc(), &cases)
+    refuses_lines(&rt, rt.alloc(), &UNFORMED_PARTS)
 }
+
+const OUT_OF_PLACE: [(&str, &str); 19] = [
+    ("x = 1; integer y; x y", "2: E203"),
+    ("x = 1\ninteger :: y", "3: E203"),
+    ("integer y\nuse m", "3: E203"),
+    ("private", "2: E203"),
+    ("return", "2: E203"),
+    ("if (a) return", "2: E203"),
+    ("else", "2: E203"),
+    ("if (a) then\nelse\nelse\nend if", "4: E203"),
+    ("if (a) then\nelse\nelse if (b) then\nend if", "4: E203"),
+    ("if (a) then\nend do\nend if", "3: E203"),
+    ("select case (a)\nx = 1\nend select", "3: E203"),
+    (
+        "select case (a)\ncase default\ncase default\nend select",
+        "4: E203",
+    ),
+    ("contains\ncontains", "3: E203"),
+    ("contains\nx = 1", "3: E203"),
+    ("contains\nsubroutine s\ncontains\nend\n", "4: E203"),
+    ("type t\nend type", "3: E203"),
+    ("interface g\nend interface", "3: E203"),
+    ("case (1)", "2: E203"),
+    ("subroutine s\nend", "2: E203"),
+];
 
 #[test]
 fn statements_out_of_place_are_told(rt: HostRuntime) -> Result<(), Fail> {
-    let cases = [
-        ("x = 1; integer y; x y", "2: E203"),
-        ("x = 1\ninteger :: y", "3: E203"),
-        ("integer y\nuse m", "3: E203"),
-        ("private", "2: E203"),
-        ("return", "2: E203"),
-        ("if (a) return", "2: E203"),
-        ("else", "2: E203"),
-        ("if (a) then\nelse\nelse\nend if", "4: E203"),
-        ("if (a) then\nelse\nelse if (b) then\nend if", "4: E203"),
-        ("if (a) then\nend do\nend if", "3: E203"),
-        ("select case (a)\nx = 1\nend select", "3: E203"),
-        (
-            "select case (a)\ncase default\ncase default\nend select",
-            "4: E203",
-        ),
-        ("contains\ncontains", "3: E203"),
-        ("contains\nx = 1", "3: E203"),
-        ("contains\nsubroutine s\ncontains\nend\n", "4: E203"),
-        ("type t\nend type", "3: E203"),
-        ("interface g\nend interface", "3: E203"),
-        ("case (1)", "2: E203"),
-        ("subroutine s\nend", "2: E203"),
-    ];
-    refuses_lines(&rt, rt.alloc(), &cases)
+    refuses_lines(&rt, rt.alloc(), &OUT_OF_PLACE)
 }
+
+const NAMES_BEHIND_ENDS: [(&str, &str); 9] = [
+    ("if (a) then\nend if c", "3: E205"),
+    ("c: if (a) then\nend if d", "3: E205"),
+    ("if (a) then\nelse if\nend if", "3: E205"),
+    ("c: do\nend do d", "3: E205"),
+    ("c: select case (a)\ncase (1) d\nend select", "3: E205"),
+    ("type t\ninteger x\nend type u", "4: E205"),
+    ("interface g\nprocedure a\nend interface h", "4: E205"),
+    ("contains\nsubroutine s\nend subroutine t", "4: E205"),
+    ("end program q", "2: E205"),
+];
 
 #[test]
 fn names_behind_ends_are_compared(rt: HostRuntime) -> Result<(), Fail> {
-    let cases = [
-        ("if (a) then\nend if c", "3: E205"),
-        ("c: if (a) then\nend if d", "3: E205"),
-        ("if (a) then\nelse if\nend if", "3: E205"),
-        ("c: do\nend do d", "3: E205"),
-        ("c: select case (a)\ncase (1) d\nend select", "3: E205"),
-        ("type t\ninteger x\nend type u", "4: E205"),
-        ("interface g\nprocedure a\nend interface h", "4: E205"),
-        ("contains\nsubroutine s\nend subroutine t", "4: E205"),
-        ("end program q", "2: E205"),
-    ];
-    refuses_lines(&rt, rt.alloc(), &cases)
+    refuses_lines(&rt, rt.alloc(), &NAMES_BEHIND_ENDS)
 }
+
+const OPEN: [(&[u8], &str); 6] = [
+    (b"\nprogram p\n\n", "s.f90:2: E204\n"),
+    (b"program p\nif (a) then\nx = 1\n", "s.f90:2: E204\n"),
+    (b"program p\nif (a) then\nend if\n", "s.f90:1: E204\n"),
+    (
+        b"module m\ncontains\nsubroutine s\nx = 1\n",
+        "s.f90:3: E204\n",
+    ),
+    (b"module m\ntype t\ninteger x\n", "s.f90:2: E204\n"),
+    (b"program p\nx = 1\ninteger :: y\nend\n", "s.f90:3: E203\n"),
+];
 
 #[test]
 fn what_is_open_at_the_end_is_told_at_its_first_line(rt: HostRuntime) -> Result<(), Fail> {
-    let cases: [(&[u8], &str); 6] = [
-        (b"\nprogram p\n\n", "s.f90:2: E204\n"),
-        (b"program p\nif (a) then\nx = 1\n", "s.f90:2: E204\n"),
-        (b"program p\nif (a) then\nend if\n", "s.f90:1: E204\n"),
-        (
-            b"module m\ncontains\nsubroutine s\nx = 1\n",
-            "s.f90:3: E204\n",
-        ),
-        (b"module m\ntype t\ninteger x\n", "s.f90:2: E204\n"),
-        (b"program p\nx = 1\ninteger :: y\nend\n", "s.f90:3: E203\n"),
-    ];
-    refuses(&rt, rt.alloc(), &cases)
+    refuses(&rt, rt.alloc(), &OPEN)
 }
 
 // `if (a) then` so many times round an action behind a condition, with its ends
@@ -185,28 +190,29 @@ fn constructs_and_expressions_have_a_greatest_depth(rt: HostRuntime) -> Result<(
     told(&rt, alloc, refused.as_slice(), "s.f90:2: E201\n")
 }
 
+const PLACES: [(&[u8], &[u8], &str); 12] = [
+    (b"x = &\n", b"", "s.f90:2: E206\n"),
+    (b"integer :: a(&\n", b")", "s.f90:2: E206\n"),
+    (b"integer :: a(0:&\n", b")", "s.f90:2: E206\n"),
+    (b"character(len=&\n", b") :: c", "s.f90:2: E206\n"),
+    (b"integer :: a = &\n", b"", "s.f90:2: E206\n"),
+    (b"if (&\n", b") x = 1", "s.f90:2: E206\n"),
+    (b"do i = 1, &\n", b"\nend do", "s.f90:2: E206\n"),
+    (b"select case (&\n", b")\nend select", "s.f90:2: E206\n"),
+    (
+        b"select case (a)\ncase (&\n",
+        b":)\nend select",
+        "s.f90:3: E206\n",
+    ),
+    (b"call s(&\n", b")", "s.f90:2: E206\n"),
+    (b"print *, 1, &\n", b"", "s.f90:2: E206\n"),
+    (b"stop &\n", b"", "s.f90:2: E206\n"),
+];
+
 #[test]
 fn each_expression_has_the_greatest_depth(rt: HostRuntime) -> Result<(), Fail> {
     let alloc = rt.alloc();
-    let places: [(&[u8], &[u8], &str); 12] = [
-        (b"x = &\n", b"", "s.f90:2: E206\n"),
-        (b"integer :: a(&\n", b")", "s.f90:2: E206\n"),
-        (b"integer :: a(0:&\n", b")", "s.f90:2: E206\n"),
-        (b"character(len=&\n", b") :: c", "s.f90:2: E206\n"),
-        (b"integer :: a = &\n", b"", "s.f90:2: E206\n"),
-        (b"if (&\n", b") x = 1", "s.f90:2: E206\n"),
-        (b"do i = 1, &\n", b"\nend do", "s.f90:2: E206\n"),
-        (b"select case (&\n", b")\nend select", "s.f90:2: E206\n"),
-        (
-            b"select case (a)\ncase (&\n",
-            b":)\nend select",
-            "s.f90:3: E206\n",
-        ),
-        (b"call s(&\n", b")", "s.f90:2: E206\n"),
-        (b"print *, 1, &\n", b"", "s.f90:2: E206\n"),
-        (b"stop &\n", b"", "s.f90:2: E206\n"),
-    ];
-    for place in &places {
+    for place in &PLACES {
         let accepted = in_parentheses(alloc, place.0, 255, b"1", place.1)?;
         told(&rt, alloc, accepted.as_slice(), "")?;
         let refused = in_parentheses(alloc, place.0, 256, b"1", place.1)?;

@@ -8,17 +8,17 @@ use Rattle.c_nodes.specs.declared.tree.CExpr.{CExpr}
 use Rattle.c_nodes.specs.declared.tree.CExpr.TheVariants.{Variable, Index, Member, Constant, Greatest, Least, Paren, Negate, Not, Binary, Cast, ToInt, Address, Literal}
 use Rattle.c_nodes.specs.declared.tree.CStmt.{CStmt}
 use Rattle.c_nodes.specs.declared.tree.CStmt.TheVariants.{Declare, DeclareArray, DeclareValue, DeclarePointer, DeclareCall, Assign, AssignCall, Call, Return, ReturnValue, ReturnCall, Goto, Label, Block, While, If, IfElse}
-use Rattle.c_nodes.specs.Grammar.{is_name, is_type, is_constant, Standing, Place, Operand, Whole, is_place, is_operand, is_whole, standing_if, standing_layer, standing_of, is_expr, is_target, is_call, is_block, stmt_layer, is_stmt, Mark, IsLabel, IsOther, other_if, are_last, mark_layer, mark_of}
+use Rattle.c_nodes.specs.Grammar.{is_name, is_type, is_constant, Standing, Lvalue, Operand, Whole, is_lvalue, is_operand, is_whole, standing_if, standing_layer, standing_of, is_expr, is_target, is_call, is_block, stmt_layer, is_stmt, Mark, IsLabel, IsOther, other_if, are_last, mark_layer, mark_of}
 use Rattle.c_nodes.proofs.ExprInduction as expressions
 use Rattle.c_nodes.proofs.StmtInduction as statements
 
-pub standing_of-Variable : (name : Name) → standing_of (Variable name) ≡ standing_if (is_name name) Place
+pub standing_of-Variable : (name : Name) → standing_of (Variable name) ≡ standing_if (is_name name) Lvalue
 standing_of-Variable name = expressions.fold-Variable Standing standing_layer name
 
-pub standing_of-Index : (base : CExpr) (subscript : CExpr) → standing_of (Index base subscript) ≡ standing_if (is_place (standing_of base) && is_whole (standing_of subscript)) Place
+pub standing_of-Index : (base : CExpr) (subscript : CExpr) → standing_of (Index base subscript) ≡ standing_if (is_lvalue (standing_of base) && is_whole (standing_of subscript)) Lvalue
 standing_of-Index base subscript = expressions.fold-Index Standing standing_layer base subscript
 
-pub standing_of-Member : (base : CExpr) (name : Name) → standing_of (Member base name) ≡ standing_if (is_place (standing_of base) && is_name name) Place
+pub standing_of-Member : (base : CExpr) (name : Name) → standing_of (Member base name) ≡ standing_if (is_lvalue (standing_of base) && is_name name) Lvalue
 standing_of-Member base name = expressions.fold-Member Standing standing_layer base name
 
 pub standing_of-Constant : (value : ℕ) → standing_of (Constant value) ≡ standing_if (is_constant value) Operand
@@ -48,7 +48,7 @@ standing_of-Cast kind operand = expressions.fold-Cast Standing standing_layer ki
 pub standing_of-ToInt : (operand : CExpr) → standing_of (ToInt operand) ≡ standing_if (is_operand (standing_of operand)) Whole
 standing_of-ToInt operand = expressions.fold-ToInt Standing standing_layer operand
 
-pub standing_of-Address : (place : CExpr) → standing_of (Address place) ≡ standing_if (is_place (standing_of place)) Whole
+pub standing_of-Address : (place : CExpr) → standing_of (Address place) ≡ standing_if (is_lvalue (standing_of place)) Whole
 standing_of-Address place = expressions.fold-Address Standing standing_layer place
 
 pub standing_of-Literal : (bytes : List ℕ) → standing_of (Literal bytes) ≡ standing_if (list_all (λ byte. nat_lt byte 256) bytes) Whole

@@ -5,7 +5,7 @@ use Rattle.std.specs.List.{list_all}
 use Rattle.lf_base.specs.Contents.{joined}
 use Rattle.c_nodes.specs.Text.{item_texts}
 use Rattle.c_nodes.specs.Grammar.{is_item}
-use Rattle.c_nodes.specs.SmallFiles.{shown, shown_text, early_label}
+use Rattle.c_nodes.specs.ShownFile.{shown, shown_text, early_label}
 use Rattle.c_nodes.proofs.GrammarShapes.{standings, marks}
 use Rattle.c_nodes.proofs.Texts.{shapes}
 

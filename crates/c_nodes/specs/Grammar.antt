@@ -21,7 +21,6 @@ use Rattle.c_nodes.specs.declared.tree.CStmt.TheFolds.{fold-CStmt}
 use Rattle.c_nodes.specs.declared.tree.CItem.{CItem}
 use Rattle.c_nodes.specs.declared.tree.CItem.TheVariants.{Struct, Object, Prototype, Function}
 use Rattle.c_nodes.specs.declared.tree.CFile.{CFile}
-use Rattle.c_nodes.specs.Prelude.{prelude_items}
 use Rattle.c_nodes.specs.Text.{file_text}
 
 -- the keywords of the profile, and the names that its headers give a meaning of their own
@@ -46,27 +45,27 @@ is_type (type.Struct name) = is_name name
 abbrev pub is_constant : ℕ → Bool
 is_constant value = nat_lt value (2 ^ 63)
 
--- What an expression is. A place may stand where an operand may, and an operand where a whole expression may.
+-- What an expression is. An lvalue may stand where an operand may, and an operand where a whole expression may.
 pub data Standing : Type 0 where
-  Place : Standing
+  Lvalue : Standing
   Operand : Standing
   Whole : Standing
   Nothing : Standing
 
-abbrev pub is_place : Standing → Bool
-is_place Place = true
-is_place Operand = false
-is_place Whole = false
-is_place Nothing = false
+abbrev pub is_lvalue : Standing → Bool
+is_lvalue Lvalue = true
+is_lvalue Operand = false
+is_lvalue Whole = false
+is_lvalue Nothing = false
 
 abbrev pub is_operand : Standing → Bool
-is_operand Place = true
+is_operand Lvalue = true
 is_operand Operand = true
 is_operand Whole = false
 is_operand Nothing = false
 
 abbrev pub is_whole : Standing → Bool
-is_whole Place = true
+is_whole Lvalue = true
 is_whole Operand = true
 is_whole Whole = true
 is_whole Nothing = false
@@ -76,9 +75,9 @@ standing_if right standing = if right then standing else Nothing
 
 -- one shape of an expression, with what its parts are
 abbrev pub standing_layer : CExpr-F Standing → Standing
-standing_layer (CExpr-F.Variable name) = standing_if (is_name name) Place
-standing_layer (CExpr-F.Index base subscript) = standing_if (is_place base && is_whole subscript) Place
-standing_layer (CExpr-F.Member base name) = standing_if (is_place base && is_name name) Place
+standing_layer (CExpr-F.Variable name) = standing_if (is_name name) Lvalue
+standing_layer (CExpr-F.Index base subscript) = standing_if (is_lvalue base && is_whole subscript) Lvalue
+standing_layer (CExpr-F.Member base name) = standing_if (is_lvalue base && is_name name) Lvalue
 standing_layer (CExpr-F.Constant value) = standing_if (is_constant value) Operand
 standing_layer CExpr-F.Greatest = Operand
 standing_layer CExpr-F.Least = Operand
@@ -88,7 +87,7 @@ standing_layer (CExpr-F.Not operand) = standing_if (is_operand operand) Whole
 standing_layer (CExpr-F.Binary operator left right) = standing_if (is_operand left && is_operand right) Whole
 standing_layer (CExpr-F.Cast kind operand) = standing_if (is_type kind && is_operand operand) Whole
 standing_layer (CExpr-F.ToInt operand) = standing_if (is_operand operand) Whole
-standing_layer (CExpr-F.Address place) = standing_if (is_place place) Whole
+standing_layer (CExpr-F.Address place) = standing_if (is_lvalue place) Whole
 standing_layer (CExpr-F.Literal bytes) = standing_if (list_all (λ byte. nat_lt byte 256) bytes) Whole
 
 abbrev pub standing_of : CExpr → Standing
@@ -98,7 +97,7 @@ abbrev pub is_expr : CExpr → Bool
 is_expr expr = is_whole (standing_of expr)
 
 abbrev pub is_target : CExpr → Bool
-is_target expr = is_place (standing_of expr)
+is_target expr = is_lvalue (standing_of expr)
 
 abbrev pub is_call : List ℕ → List CExpr → Bool
 is_call callee arguments = is_name callee && list_all is_expr arguments
@@ -194,18 +193,14 @@ abbrev pub is_external : CItem → Bool
 is_external (Function is_static result name parameters body) = not is_static
 is_external item = true
 
--- the prelude, and items behind it
-abbrev pub file_with : List CItem → CFile
-file_with rest = record { items = prelude_items ++ rest }
-
--- A file begins with the items of the prelude, and behind them nothing is `static`.
-pub record IsGrammatical (file : CFile) : Type 0 where
+-- A file begins with these items, the prelude, and behind them nothing is `static`.
+pub record IsGrammaticalBehind (prelude : List CItem) (file : CFile) : Type 0 where
   pub rest : List CItem
-  pub begins : file.items ≡ prelude_items ++ rest
+  pub begins : file.items ≡ prelude ++ rest
   pub items : IsTrue (list_all is_item file.items)
   pub external : IsTrue (list_all is_external rest)
 
--- A file of the profile has one spelling: its text.
-pub record Spells (bytes : List ℕ) (file : CFile) : Type 0 where
-  pub grammatical : IsGrammatical file
+-- A file that begins with the prelude has one spelling: its text.
+pub record SpellsBehind (prelude : List CItem) (bytes : List ℕ) (file : CFile) : Type 0 where
+  pub grammatical : IsGrammaticalBehind prelude file
   pub text : bytes ≡ file_text file

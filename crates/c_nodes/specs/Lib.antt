@@ -1,11 +1,3 @@
-pub mod CMeaning
-pub mod CState
-pub mod CValues
 pub mod Grammar
-pub mod HelperLaws
-pub mod Linking
-pub mod Machine
-pub mod Prelude
-pub mod PreludeText
-pub mod SmallFiles
+pub mod ShownFile
 pub mod Text

@@ -63,7 +63,7 @@ pub enum CBinary {
     Or,
 }
 
-/// An expression (6.5). A place is a variable, an element of a place or a member of one. Operands are places,
+/// An expression (6.5). An lvalue is a variable, an element of an lvalue or a member of one. Operands are lvalues,
 /// constants or in parentheses.
 #[derive(Drop)]
 pub enum CExpr {

@@ -14,17 +14,17 @@ use Rattle.c_nodes.specs.declared.tree.CStmt.{CStmt}
 use Rattle.c_nodes.specs.declared.tree.CType.TheVariants.{Int64}
 use Rattle.c_nodes.specs.declared.tree.CExpr.TheVariants.{Variable, Constant, Address}
 use Rattle.c_nodes.specs.declared.tree.CStmt.TheVariants.{DeclareValue, Call, Return, ReturnValue, Block}
-use Rattle.c_nodes.specs.CValues.{W32, W64, Local, Number, Pointer, fits}
-use Rattle.c_nodes.specs.CState.{Around, read_from, Slot, Cells, State, no_names, find_name, slot_of, put_object, with_slot, closed}
-use Rattle.c_nodes.specs.CMeaning.{Element, address_of, named, within_object, variable_value, all_given, written_byte, Returned, Doing, Calls, calls_of, call, on_procedure, first_of, external_in, block, clause, statement, statements, status_of, all_items, around_all, begin, CMeaning}
-use Rattle.c_nodes.specs.HelperLaws.{HasPrelude, overflows}
-use Rattle.c_nodes.proofs.CStmts.{does-Return, does-Block}
-use Rattle.c_nodes.proofs.CExprs.{exprs}
-use Rattle.c_nodes.proofs.CRuns.{run_declare_value, run_call, run_return, run_block, stop_block}
-use Rattle.c_nodes.proofs.CCalls.{calls_putchar, prints, call_going}
-use Rattle.c_nodes.proofs.CMonotone.{meaning_monotone}
-use Rattle.c_nodes.proofs.Gap.{gap_law}
-use Rattle.c_nodes.proofs.Ints.{int_law}
+use Rattle.c_semantics.specs.CValues.{W32, W64, Local, Number, Pointer, fits}
+use Rattle.c_semantics.specs.CState.{Around, read_from, Slot, Cells, State, no_names, find_name, slot_of, put_object, with_slot, closed}
+use Rattle.c_semantics.specs.CMeaning.{Element, address_of, named, within_object, variable_value, all_given, written_byte, Returned, Doing, Calls, calls_of, call, on_procedure, first_of, external_in, block, clause, statement, statements, status_of, all_items, around_all, begin, CMeaning}
+use Rattle.c_prelude.specs.PreludeLaws.{HasPrelude, overflows}
+use Rattle.c_semantics.proofs.CStmts.{does-Return, does-Block}
+use Rattle.c_semantics.proofs.CExprs.{exprs}
+use Rattle.c_semantics.proofs.CRuns.{run_declare_value, run_call, run_return, run_block, stop_block}
+use Rattle.c_semantics.proofs.CCalls.{calls_putchar, prints, call_going}
+use Rattle.c_semantics.proofs.CMonotone.{meaning_monotone}
+use Rattle.c_prelude.proofs.PreludeGap.{gap_law}
+use Rattle.c_prelude.proofs.PreludeInts.{int_law}
 use Rattle.lf_driver.specs.Source.{Source}
 use Rattle.lf_driver.specs.Lowered.{temporary, temporary_value, count, lowered, printing_begins, printing_ends, printed, init_name, lowered_items, lowered_file, main_body}
 use Rattle.lf_driver.specs.Fortran.{IsSmall, value_of, value_or_trap, FortranMeaning, overflow_text}

@@ -13,15 +13,15 @@ use Rattle.c_nodes.specs.declared.tree.CExpr.{CExpr}
 use Rattle.c_nodes.specs.declared.tree.CType.TheVariants.{Int64}
 use Rattle.c_nodes.specs.declared.tree.CExpr.TheVariants.{Constant}
 use Rattle.c_nodes.specs.declared.tree.CStmt.TheVariants.{DeclareCall}
-use Rattle.c_nodes.specs.CValues.{Width, W32, W64, Local, CValue, Number, fits}
-use Rattle.c_nodes.specs.CState.{Around, Frame, State, read_from}
-use Rattle.c_nodes.specs.CMeaning.{reading, variable_value, Element, stored_in, begin_object, all_given, answer, answered, initialize, Flow, Doing, Calls, calls_of, statement, statements}
-use Rattle.c_nodes.specs.HelperLaws.{HasPrelude, overflows, value_or_overflow, Combines}
-use Rattle.c_nodes.proofs.CExprs.{exprs}
-use Rattle.c_nodes.proofs.CRuns.{run_declare_value, run_declare_call, stop_answer}
-use Rattle.c_nodes.proofs.CStmts.{does-DeclareCall}
-use Rattle.c_nodes.proofs.Arithmetic.{add_law, fit_law}
-use Rattle.c_nodes.proofs.Multiply.{sub_law, mul_law}
+use Rattle.c_semantics.specs.CValues.{Width, W32, W64, Local, CValue, Number, fits}
+use Rattle.c_semantics.specs.CState.{Around, Frame, State, read_from}
+use Rattle.c_semantics.specs.CMeaning.{reading, variable_value, Element, stored_in, begin_object, all_given, answer, answered, initialize, Flow, Doing, Calls, calls_of, statement, statements}
+use Rattle.c_prelude.specs.PreludeLaws.{HasPrelude, overflows, value_or_overflow, Combines}
+use Rattle.c_semantics.proofs.CExprs.{exprs}
+use Rattle.c_semantics.proofs.CRuns.{run_declare_value, run_declare_call, stop_answer}
+use Rattle.c_semantics.proofs.CStmts.{does-DeclareCall}
+use Rattle.c_prelude.proofs.PreludeArithmetic.{add_law, fit_law}
+use Rattle.c_prelude.proofs.PreludeMultiply.{sub_law, mul_law}
 use Rattle.lf_driver.specs.declared.built.Operator.{Operator}
 use Rattle.lf_driver.specs.declared.built.Operator.TheVariants.{Add, Subtract, Multiply}
 use Rattle.lf_driver.specs.Source.{Tree, Literal, Binary}

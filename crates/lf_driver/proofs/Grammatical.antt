@@ -13,9 +13,10 @@ use Rattle.c_nodes.specs.declared.tree.CItem.TheVariants.{Prototype, Function}
 use Rattle.c_nodes.specs.declared.tree.CResult.TheVariants.{Void, Int}
 use Rattle.c_nodes.specs.declared.tree.CStmt.{CStmt}
 use Rattle.c_nodes.specs.declared.tree.CStmt.TheVariants.{Call, Return, ReturnValue, Block}
-use Rattle.c_nodes.specs.Grammar.{is_name, is_word, is_stmt, is_item, is_block, has_last_labels, IsGrammatical}
+use Rattle.c_nodes.specs.Grammar.{is_name, is_word, is_stmt, is_item, is_block, has_last_labels}
+use Rattle.c_prelude.specs.PreludeFile.{IsGrammatical}
 use Rattle.c_nodes.proofs.GrammarShapes.{standings}
-use Rattle.c_nodes.proofs.PreludeTexts.{grammatical_with}
+use Rattle.c_prelude.proofs.PreludeTexts.{grammatical_with}
 use Rattle.lf_driver.specs.declared.built.Operator.{Operator}
 use Rattle.lf_driver.specs.declared.built.Operator.TheVariants.{Add, Subtract, Multiply}
 use Rattle.lf_driver.specs.Built.{is_name_byte}

@@ -1,8 +1,8 @@
 -- The headline, from the law on the printed C.
 use Rattle.std.proofs.Common.{◌≡◌, ℕ, ◌^◌, ◌<◌, true, false, List, [], ◌∷◌, Option, Some, None, ◌⊎◌, inl, inr, refl, sym, ap, subst, ◌∙◌, arith}
 use Rattle.lf_base.specs.Files.{Files}
-use Rattle.c_nodes.specs.Grammar.{IsGrammatical}
-use Rattle.c_nodes.proofs.PreludeTexts.{prelude_spelled}
+use Rattle.c_prelude.specs.PreludeFile.{IsGrammatical}
+use Rattle.c_prelude.proofs.PreludeTexts.{prelude_spelled}
 use Rattle.lf_driver.specs.declared.command.Verb.TheVariants.{Compile}
 use Rattle.lf_driver.specs.declared.outcome.Answer.{Answer}
 use Rattle.lf_driver.specs.declared.outcome.Answer.TheVariants.{Done, Usage, Absent, Refused, ReadFault, WriteFault, Memory}

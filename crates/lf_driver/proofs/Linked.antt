@@ -13,10 +13,10 @@ use Rattle.c_nodes.specs.declared.tree.CExpr.TheVariants.{Variable, Constant, Ad
 use Rattle.c_nodes.specs.declared.tree.CItem.TheVariants.{Prototype, Function}
 use Rattle.c_nodes.specs.declared.tree.CStmt.{CStmt}
 use Rattle.c_nodes.specs.declared.tree.CStmt.TheVariants.{DeclareCall, Call, Return, ReturnValue, Block}
-use Rattle.c_nodes.specs.Linking.{Typed, Object, Number, Leads, is_number, Entry, Scope, first_or, is_declared, type_of, ANumber, APointer, Signature, library, Known, at_start, signature_of, address_of, given_by, call_gives, is_call, is_value, kept_if, Step, declared, initialized, on_scope, in_turn, is_right, step, signature, is_right_body, are_right, known_behind, is_right_file, functions_of, has_name, are_distinct, shown_in, are_agreed, calls_only, item_calls_only, is_defined, IsProgram}
-use Rattle.c_nodes.specs.Prelude.{prelude_items}
-use Rattle.c_nodes.proofs.LinkingShapes.{links, callings, type_of-Variable, type_of-Constant, type_of-Address, step-DeclareValue, step-DeclareCall, step-Call, step-Return, step-ReturnValue, step-Block}
-use Rattle.c_nodes.proofs.LinkingPrelude.{prelude_right}
+use Rattle.c_semantics.specs.Linking.{Typed, Object, Number, Leads, is_number, Entry, Scope, first_or, is_declared, type_of, ANumber, APointer, Signature, library, Known, at_start, signature_of, address_of, given_by, call_gives, is_call, is_value, kept_if, Scoping, declared, initialized, on_scope, in_turn, is_right, scoping, signature, is_right_body, are_right, known_behind, is_right_file, functions_of, has_name, are_distinct, shown_in, are_agreed, calls_only, item_calls_only, is_defined, IsProgram}
+use Rattle.c_prelude.specs.Prelude.{prelude_items}
+use Rattle.c_semantics.proofs.LinkingShapes.{links, callings, type_of-Variable, type_of-Constant, type_of-Address, scoping-DeclareValue, scoping-DeclareCall, scoping-Call, scoping-Return, scoping-ReturnValue, scoping-Block}
+use Rattle.c_prelude.proofs.PreludeLinked.{prelude_right}
 use Rattle.lf_driver.specs.declared.built.Operator.{Operator}
 use Rattle.lf_driver.specs.declared.built.Operator.TheVariants.{Add, Subtract, Multiply}
 use Rattle.lf_driver.specs.Lowered.{temporary, temporary_value, helper, constant, computed, fitted, operation, count, lowered, printing_begins, printing_ends, printed, init_name, main_body, lowered_items, lowered_file}
@@ -138,11 +138,11 @@ declares_next m k few e =
     ∙ ap (λ i. Some (record { here = (temporary i, Object Int64) ∷ entries k; around = []; structures = [] })) e
     ∙ ap (λ i. Some (scope i)) (sym e)
 
-append_by : (xs ys : List Step) → ((s : Scope) → in_turn (xs ++ ys) s ≡ on_scope (in_turn xs s) (in_turn ys)) → (o : Option Scope) → on_scope o (in_turn (xs ++ ys)) ≡ on_scope (on_scope o (in_turn xs)) (in_turn ys)
+append_by : (xs ys : List Scoping) → ((s : Scope) → in_turn (xs ++ ys) s ≡ on_scope (in_turn xs s) (in_turn ys)) → (o : Option Scope) → on_scope o (in_turn (xs ++ ys)) ≡ on_scope (on_scope o (in_turn xs)) (in_turn ys)
 append_by xs ys h None = refl
 append_by xs ys h (Some t) = h t
 
-in_turn_append : (xs ys : List Step) (s : Scope) → in_turn (xs ++ ys) s ≡ on_scope (in_turn xs s) (in_turn ys)
+in_turn_append : (xs ys : List Scoping) (s : Scope) → in_turn (xs ++ ys) s ≡ on_scope (in_turn xs s) (in_turn ys)
 in_turn_append [] ys s = refl
 in_turn_append (x ∷ xs) ys s = append_by xs ys (in_turn_append xs ys) (x.behind s)
 
@@ -151,8 +151,8 @@ or_true true = refl
 or_true false = refl
 
 module _ (init : List ℕ) (found : Finds init) where
-  abbrev main_step : CStmt → Step
-  main_step = step (known init) result.Int
+  abbrev main_step : CStmt → Scoping
+  main_step = scoping (known init) result.Int
 
   abbrev run : List CStmt → Scope → Option Scope
   run body = in_turn (map main_step body)
@@ -165,19 +165,19 @@ module _ (init : List ℕ) (found : Finds init) where
 
   run_constant : (v k m : ℕ) (rest : List CStmt) → Few m → m ≡ suc k → run (constant m v ∷ rest) (scope k) ≡ run rest (scope m)
   run_constant v k m rest few e =
-      ap (λ f. on_scope (f.behind (scope k)) (run rest)) (step-DeclareValue (known init) result.Int Int64 (temporary m) (Constant v))
+      ap (λ f. on_scope (f.behind (scope k)) (run rest)) (scoping-DeclareValue (known init) result.Int Int64 (temporary m) (Constant v))
       ∙ ap (λ o. on_scope (initialized o (λ i. is_number (type_of i (Constant v)))) (run rest)) (declares_next m k few e)
       ∙ ap (λ t. on_scope (kept_if (is_number t) (scope m)) (run rest)) (type_of-Constant (scope m) v)
 
   run_declare_call : (callee : List ℕ) (arguments : List CExpr) (k m : ℕ) (rest : List CStmt) → Few m → m ≡ suc k → is_value (call_gives (known init) (scope m) callee arguments) ≡ true → run (DeclareCall Int64 (temporary m) callee arguments ∷ rest) (scope k) ≡ run rest (scope m)
   run_declare_call callee arguments k m rest few e h =
-      ap (λ f. on_scope (f.behind (scope k)) (run rest)) (step-DeclareCall (known init) result.Int Int64 (temporary m) callee arguments)
+      ap (λ f. on_scope (f.behind (scope k)) (run rest)) (scoping-DeclareCall (known init) result.Int Int64 (temporary m) callee arguments)
       ∙ ap (λ o. on_scope (initialized o (λ i. is_value (call_gives (known init) i callee arguments))) (run rest)) (declares_next m k few e)
       ∙ ap (λ b. on_scope (kept_if b (scope m)) (run rest)) h
 
   run_call : (callee : List ℕ) (arguments : List CExpr) (k : ℕ) (rest : List CStmt) → is_call (call_gives (known init) (scope k) callee arguments) ≡ true → run (Call callee arguments ∷ rest) (scope k) ≡ run rest (scope k)
   run_call callee arguments k rest h =
-      ap (λ f. on_scope (f.behind (scope k)) (run rest)) (step-Call (known init) result.Int callee arguments)
+      ap (λ f. on_scope (f.behind (scope k)) (run rest)) (scoping-Call (known init) result.Int callee arguments)
       ∙ ap (λ b. on_scope (kept_if b (scope k)) (run rest)) h
 
   helper_new : (operator : Operator) (k : ℕ) → is_declared (helper operator) (entries k) ≡ false
@@ -251,15 +251,15 @@ module _ (init : List ℕ) (found : Finds init) where
   body_right : (body : List CStmt) (s : Scope) → run body outer ≡ Some s → run (Call init [] ∷ Block body ∷ ReturnValue (Constant 0) ∷ []) outer ≡ Some outer
   body_right body s h =
       let last : List CStmt = ReturnValue (Constant 0) ∷ [] in
-      ap (λ f. on_scope (f.behind outer) (run (Block body ∷ last))) (step-Call (known init) result.Int init [])
+      ap (λ f. on_scope (f.behind outer) (run (Block body ∷ last))) (scoping-Call (known init) result.Int init [])
       ∙ ap (λ r. on_scope (kept_if (is_call r) outer) (run (Block body ∷ last))) calls_init
-      ∙ ap (λ f. on_scope (f.behind outer) (run last)) (step-Block (known init) result.Int body)
+      ∙ ap (λ f. on_scope (f.behind outer) (run last)) (scoping-Block (known init) result.Int body)
       ∙ ap (λ o. on_scope (kept_if (is_right o) outer) (run last)) h
-      ∙ ap (λ f. on_scope (f.behind outer) (run [])) (step-ReturnValue (known init) result.Int (Constant 0))
+      ∙ ap (λ f. on_scope (f.behind outer) (run [])) (scoping-ReturnValue (known init) result.Int (Constant 0))
       ∙ ap (λ t. on_scope (kept_if (is_number t) outer) (run [])) (type_of-Constant outer 0)
 
 return_right : (functions : List Signature) → is_right_body (known_functions functions) result.Void [] (Return ∷ []) ≡ true
-return_right functions = ap (λ f. is_right (on_scope (f.behind outer) (in_turn []))) (step-Return functions result.Void)
+return_right functions = ap (λ f. is_right (on_scope (f.behind outer) (in_turn []))) (scoping-Return functions result.Void)
 
 three_right : (init : List ℕ) (body : List CStmt) → signature_of init before ≡ None → is_right_body (known_functions (known init)) result.Int [] body ≡ true → bytes_eq (codes "main") init ≡ false → bytes_eq init (codes "stderr") ≡ false → are_right (Prototype result.Void init [] ∷ Function false result.Void init [] (Return ∷ []) ∷ Function false result.Int (codes "main") [] body ∷ []) behind_prelude ≡ true
 three_right init body new right other own = simp (own, new, same_name init, return_right (init_signature init ∷ init_signature init ∷ before), other, right) refl

@@ -7,8 +7,8 @@ use Rattle.std.proofs.lemmas.Bool.Decides.{nat_tests}
 use Rattle.c_nodes.specs.declared.tree.CItem.{CItem}
 use Rattle.c_nodes.specs.declared.tree.CResult.TheVariants as result
 use Rattle.c_nodes.specs.declared.tree.CStmt.TheVariants.{Return}
-use Rattle.c_nodes.specs.CMeaning.{Procedure, function_in}
-use Rattle.c_nodes.specs.Prelude.{prelude_items}
+use Rattle.c_semantics.specs.CMeaning.{Procedure, function_in}
+use Rattle.c_prelude.specs.Prelude.{prelude_items}
 use Rattle.lf_driver.specs.Source.{Source}
 use Rattle.lf_driver.specs.Lowered.{init_name, lowered_items}
 use Rattle.lf_driver.proofs.Temporaries.{same_name}

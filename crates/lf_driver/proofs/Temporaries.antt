@@ -9,7 +9,7 @@ use Rattle.std.proofs.lemmas.Fmt.{decimal_is_IsNumeral_wide}
 use Rattle.std.proofs.lemmas.Slice.Eq.{bytes_eq-Decides}
 use Rattle.std.proofs.lemmas.Bool.Decides.{nat_tests}
 use Rattle.c_nodes.specs.declared.tree.CType.TheVariants.{Int64}
-use Rattle.c_nodes.specs.CState.{Cells, Declared, find_name, slot_of}
+use Rattle.c_semantics.specs.CState.{Cells, Declared, find_name, slot_of}
 use Rattle.lf_driver.specs.Lowered.{temporary}
 
 abbrev pub Few : ℕ → Type 0

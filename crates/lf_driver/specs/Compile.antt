@@ -10,7 +10,7 @@ use Rattle.lf_base.specs.Files.{Files}
 use Rattle.ast_nodes.specs.declared.file.File.{File}
 use Rattle.c_nodes.specs.declared.tree.CFile.{CFile}
 use Rattle.c_nodes.specs.declared.tree.CStmt.{CStmt}
-use Rattle.c_nodes.specs.Prelude.{prelude_file}
+use Rattle.c_prelude.specs.Prelude.{prelude_file}
 use Rattle.c_nodes.specs.Text.{file_text}
 use Rattle.lf_driver.specs.declared.command.Verb.TheVariants.{Compile}
 use Rattle.lf_driver.specs.declared.outcome.Answer.{Answer}

@@ -7,9 +7,9 @@ use Rattle.lf_base.specs.Files.{Files}
 use Rattle.lf_base.specs.Near.{Agree}
 use Rattle.lf_base.specs.Outcome.{Location}
 use Rattle.ast_nodes.specs.declared.file.File.{File}
-use Rattle.c_nodes.specs.CMeaning.{CMeaning}
-use Rattle.c_nodes.specs.Grammar.{Spells}
-use Rattle.c_nodes.specs.Linking.{IsProgram}
+use Rattle.c_semantics.specs.CMeaning.{CMeaning}
+use Rattle.c_prelude.specs.PreludeFile.{Spells}
+use Rattle.c_semantics.specs.Linking.{IsProgram}
 use Rattle.lf_driver.specs.Answers.{Call}
 use Rattle.lf_driver.specs.Built.{program_in}
 use Rattle.lf_driver.specs.Fortran.{FortranMeaning}

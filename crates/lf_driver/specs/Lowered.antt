@@ -11,7 +11,7 @@ use Rattle.c_nodes.specs.declared.tree.CStmt.TheVariants.{DeclareValue, DeclareC
 use Rattle.c_nodes.specs.declared.tree.CItem.{CItem}
 use Rattle.c_nodes.specs.declared.tree.CItem.TheVariants.{Prototype, Function}
 use Rattle.c_nodes.specs.declared.tree.CFile.{CFile}
-use Rattle.c_nodes.specs.Prelude.{prelude_file}
+use Rattle.c_prelude.specs.Prelude.{prelude_file}
 use Rattle.lf_driver.specs.declared.built.Operator.{Operator}
 use Rattle.lf_driver.specs.declared.built.Operator.TheVariants.{Add, Subtract, Multiply}
 use Rattle.lf_driver.specs.Source.{Tree, Literal, Binary, Source}

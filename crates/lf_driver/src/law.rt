@@ -3,7 +3,7 @@
 ghost use Rattle.std.specs.Prelude.{[], ◌∷◌, ℕ, ◌<◌, ◌^◌, length};
 ghost use Rattle.lf_base.specs.Near.{Agree};
 ghost use Rattle.lf_base.specs.Outcome.{Location};
-ghost use Rattle.c_nodes.specs.CMeaning.{CMeaning};
+ghost use Rattle.c_semantics.specs.CMeaning.{CMeaning};
 ghost use Rattle.lf_driver.specs.Fortran.{FortranMeaning, IsSmall};
 ghost use Rattle.lf_driver.specs.Lowered.{count, lowered_file};
 ghost use Rattle.lf_driver.specs.Source.{Source};

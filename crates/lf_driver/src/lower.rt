@@ -1,6 +1,6 @@
 ghost use Rattle.std.specs.Prelude.{◌≡◌, ℕ, ◌+◌, List, [], ◌∷◌, ◌++◌, length, codes, IfOk, OnOk};
 ghost use Rattle.std.specs.Fmt.{decimal};
-ghost use Rattle.c_nodes.specs.Prelude.{prelude_file};
+ghost use Rattle.c_prelude.specs.Prelude.{prelude_file};
 ghost use Rattle.c_nodes.specs.declared.tree.CType.TheVariants.{Int64};
 ghost use Rattle.c_nodes.specs.declared.tree.CStmt.TheVariants.{DeclareCall, DeclareValue, Call};
 ghost use Rattle.c_nodes.specs.declared.tree.CExpr.TheVariants.{Variable, Constant, Address};
@@ -10,7 +10,8 @@ ghost use Rattle.lf_driver.specs.Lowered.{temporary, temporary_value, helper, co
 
 use crate::built::{Operator, literal, operator_of};
 use ast_nodes::Expr;
-use c_nodes::{CExpr, CFile, CItem, CResult, CStmt, CType, prelude};
+use c_nodes::{CExpr, CFile, CItem, CResult, CStmt, CType};
+use c_prelude::prelude;
 use itoa::Buffer;
 use lf_base::{Memory, Name};
 use sqlite_items::{Boxed, Items};

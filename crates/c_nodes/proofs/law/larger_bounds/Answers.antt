@@ -1,5 +1,0 @@
-use Rattle.c_nodes.proofs.CMonotone.{meaning_monotone}
-use Rattle.c_nodes.proofs.law.larger_bounds.Goals as goal
-
-pub returns : goal.returns
-returns c = meaning_monotone

@@ -1,5 +1,0 @@
-use Rattle.c_nodes.proofs.Arithmetic.{over_law}
-use Rattle.c_nodes.proofs.law.lf_over_ends.Goals as goal
-
-pub returns : goal.returns
-returns c files file h n d long s w = over_law files file h n d long s w

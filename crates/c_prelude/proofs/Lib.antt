@@ -1,0 +1,10 @@
+pub mod PreludeArithmetic
+pub mod PreludeCalls
+pub mod PreludeDigits
+pub mod PreludeGap
+pub mod PreludeInts
+pub mod PreludeLinked
+pub mod PreludeMultiply
+pub mod PreludeProducts
+pub mod PreludeTexts
+pub mod PreludeTrap

@@ -1,0 +1,12 @@
+use Rattle.std.proofs.Common.{refl}
+use Rattle.c_prelude.proofs.PreludeArithmetic.{add_law}
+use Rattle.c_prelude.proofs.law.lf_add_adds.Goals as goal
+
+pub returns-clause-value : goal.returns-clause-value
+returns-clause-value c = add_law
+
+pub returns-clause-greatest : goal.returns-clause-greatest
+returns-clause-greatest c = record { value = λ s w. refl; trap = λ s w. refl }
+
+pub returns-clause-least : goal.returns-clause-least
+returns-clause-least c = record { value = λ s w. refl; trap = λ s w. refl }

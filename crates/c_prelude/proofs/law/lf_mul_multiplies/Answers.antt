@@ -1,0 +1,12 @@
+use Rattle.std.proofs.Common.{refl}
+use Rattle.c_prelude.proofs.PreludeMultiply.{mul_law}
+use Rattle.c_prelude.proofs.law.lf_mul_multiplies.Goals as goal
+
+pub returns-clause-value : goal.returns-clause-value
+returns-clause-value c = mul_law
+
+pub returns-clause-greatest : goal.returns-clause-greatest
+returns-clause-greatest c = record { value = λ s w. refl; trap = λ s w. refl }
+
+pub returns-clause-least : goal.returns-clause-least
+returns-clause-least c = record { value = λ s w. refl; trap = λ s w. refl }

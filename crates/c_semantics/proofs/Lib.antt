@@ -1,0 +1,11 @@
+pub mod CCalls
+pub mod CExprs
+pub mod CMonotone
+pub mod CNumbers
+pub mod CRuns
+pub mod CStmts
+pub mod JumpShapes
+pub mod LinkingShapes
+pub mod PlainBodies
+pub mod SmallFiles
+pub mod SmallPrograms

@@ -1,0 +1,29 @@
+use Rattle.c_semantics.proofs.SmallFiles.{turns_is, jumps_is, structures_is, wraps_is, stops_early_is, zeros_is, shared_is, leaves_is, cut_is}
+use Rattle.c_semantics.proofs.law.small_files_end.Goals as goal
+
+pub returns-clause-turns : goal.returns-clause-turns
+returns-clause-turns c = turns_is
+
+pub returns-clause-jumps : goal.returns-clause-jumps
+returns-clause-jumps c = jumps_is
+
+pub returns-clause-structures : goal.returns-clause-structures
+returns-clause-structures c = structures_is
+
+pub returns-clause-wraps : goal.returns-clause-wraps
+returns-clause-wraps c = wraps_is
+
+pub returns-clause-stops_early : goal.returns-clause-stops_early
+returns-clause-stops_early c = stops_early_is
+
+pub returns-clause-zeros : goal.returns-clause-zeros
+returns-clause-zeros c = zeros_is
+
+pub returns-clause-shared : goal.returns-clause-shared
+returns-clause-shared c = shared_is
+
+pub returns-clause-leaves : goal.returns-clause-leaves
+returns-clause-leaves c = leaves_is
+
+pub returns-clause-cut : goal.returns-clause-cut
+returns-clause-cut c = cut_is

@@ -1,0 +1,5 @@
+pub mod CMeaning
+pub mod CState
+pub mod CValues
+pub mod Linking
+pub mod SmallFiles

@@ -1,0 +1,606 @@
+-- Which C files are one program (ISO/IEC 9899:1999): a name is declared before it is used (6.2.1) and once in a scope
+-- (6.7, 3), operands have types that their operators take (6.5), a member is one of its structure (6.5.2.3, 1),
+-- structures are copied from their own type alone (6.5.16.1, 1), an array of constant size has an element (6.7.5.2, 1),
+-- calls have the declared arguments (6.5.2.2, 2), a return fits its function (6.8.6.4, 1), declarations of one name
+-- agree (6.2.7, 6.7, 4), a structure is declared once in a file and alike in each (6.7.2.3, 1; 6.2.7, 1), what is used
+-- is defined once (6.9, 5), none is the library's (7.1.3), there is one `main` (5.1.2.2.1), and a jump leads to the
+-- label at the end of a block around it (6.8.1, 6.8.6.1). Pointers are handed on and indexed: no operator takes one,
+-- and structures are handed on by pointers alone. Static functions belong to their file (6.2.2, 3).
+use Rattle.std.specs.Prelude.{ℕ, Bool, true, false, ◌&&◌, ◌||◌, ◌==◌, nat_lt, not, if◌then◌else◌, IsTrue, List, [], ◌∷◌, ◌++◌, map, codes, Option, Some, None}
+use Rattle.std.specs.List.{list_all, list_any, flat_map, filter}
+use Rattle.std.specs.Str.{bytes_eq}
+use Rattle.c_nodes.specs.declared.tree.CType.{CType}
+use Rattle.c_nodes.specs.declared.tree.CType.TheVariants.{Int64, Int32, Byte}
+use Rattle.c_nodes.specs.declared.tree.CType.TheVariants as type
+use Rattle.c_nodes.specs.declared.tree.CObject.{CObject}
+use Rattle.c_nodes.specs.declared.tree.CObject.TheVariants as object
+use Rattle.c_nodes.specs.declared.tree.CResult.{CResult}
+use Rattle.c_nodes.specs.declared.tree.CResult.TheVariants as result
+use Rattle.c_nodes.specs.declared.tree.CParameter.{CParameter}
+use Rattle.c_nodes.specs.declared.tree.CParameter.TheVariants as parameter
+use Rattle.c_nodes.specs.declared.tree.CExpr.{CExpr, CExpr-F, fold-CExpr}
+use Rattle.c_nodes.specs.declared.tree.CStmt.{CStmt, CStmt-F, fold-CStmt}
+use Rattle.c_nodes.specs.declared.tree.CItem.{CItem}
+use Rattle.c_nodes.specs.declared.tree.CItem.TheVariants.{Prototype, Function}
+use Rattle.c_nodes.specs.declared.tree.CItem.TheVariants as item
+use Rattle.c_nodes.specs.declared.tree.CFile.{CFile}
+
+abbrev pub same_type : CType → CType → Bool
+same_type Int64 Int64 = true
+same_type Int32 Int32 = true
+same_type Byte Byte = true
+same_type (type.Struct a) (type.Struct b) = bytes_eq a b
+same_type a b = false
+
+abbrev pub is_structure : CType → Bool
+is_structure (type.Struct tag) = true
+is_structure kind = false
+
+-- whether objects of the type hold numbers
+abbrev pub is_scalar : CType → Bool
+is_scalar kind = not (is_structure kind)
+
+-- the type of a name or of an expression
+pub data Typed : Type 0 where
+  -- an object that holds a number, or a structure
+  Object : (kind : CType) → Typed
+  -- a number
+  Number : Typed
+  -- an array with elements of this type
+  Array : (kind : CType) → Typed
+  -- a pointer to such elements
+  Leads : (kind : CType) → Typed
+  -- the library's `stderr`
+  Errors : Typed
+  -- none
+  Ill : Typed
+
+abbrev pub is_number : Typed → Bool
+is_number (Object kind) = is_scalar kind
+is_number Number = true
+is_number t = false
+
+-- an object that holds a structure of this type
+abbrev pub holds_structure : List ℕ → Typed → Bool
+holds_structure tag (Object kind) = same_type (type.Struct tag) kind
+holds_structure tag t = false
+
+-- what an object of the type may be set to (6.5.16.1, 1)
+abbrev pub takes_value : CType → Typed → Bool
+takes_value (type.Struct tag) t = holds_structure tag t
+takes_value kind t = is_number t
+
+-- an array stands for a pointer to its first element (6.3.2.1, 3)
+abbrev pub leads_to : CType → Typed → Bool
+leads_to kind (Array other) = same_type kind other
+leads_to kind (Leads other) = same_type kind other
+leads_to kind t = false
+
+abbrev pub is_errors : Typed → Bool
+is_errors Errors = true
+is_errors t = false
+
+abbrev pub number_if : Bool → Typed
+number_if right = if right then Number else Ill
+
+abbrev pub element_if : Bool → Typed → Typed
+element_if true (Array kind) = Object kind
+element_if true (Leads kind) = Object kind
+element_if right t = Ill
+
+abbrev pub address_of : Typed → Typed
+address_of (Object kind) = Leads kind
+address_of t = Ill
+
+-- a structure as it is declared
+pub record Structure : Type 0 where
+  pub tag : List ℕ
+  pub members : List CObject
+
+abbrev pub members_of : List ℕ → List Structure → List CObject
+members_of tag [] = []
+members_of tag (s ∷ ss) = if bytes_eq tag s.tag then s.members else members_of tag ss
+
+abbrev pub object_name : CObject → List ℕ
+object_name (object.Single kind name) = name
+object_name (object.Array kind name size) = name
+
+abbrev pub object_kind : CObject → CType
+object_kind (object.Single kind name) = kind
+object_kind (object.Array kind name size) = kind
+
+abbrev pub typed_as : CObject → Typed
+typed_as (object.Single kind name) = Object kind
+typed_as (object.Array kind name size) = Array kind
+
+abbrev pub type_among : List ℕ → List CObject → Typed
+type_among name [] = Ill
+type_among name (o ∷ os) = if bytes_eq name (object_name o) then typed_as o else type_among name os
+
+abbrev pub member_of : List Structure → List ℕ → Typed → Typed
+member_of structures name (Object (type.Struct tag)) = type_among name (members_of tag structures)
+member_of structures name t = Ill
+
+-- one shape of an expression, with the types of its parts, where names have these types and these structures are
+-- declared (6.5)
+abbrev pub typed_layer : List Structure → (List ℕ → Typed) → CExpr-F Typed → Typed
+typed_layer structures names (CExpr-F.Variable name) = names name
+typed_layer structures names (CExpr-F.Index base subscript) = element_if (is_number subscript) base
+typed_layer structures names (CExpr-F.Member base name) = member_of structures name base
+typed_layer structures names (CExpr-F.Constant value) = Number
+typed_layer structures names CExpr-F.Greatest = Number
+typed_layer structures names CExpr-F.Least = Number
+typed_layer structures names (CExpr-F.Paren inner) = inner
+typed_layer structures names (CExpr-F.Negate operand) = number_if (is_number operand)
+typed_layer structures names (CExpr-F.Not operand) = number_if (is_number operand)
+typed_layer structures names (CExpr-F.Binary operator left right) = number_if (is_number left && is_number right)
+typed_layer structures names (CExpr-F.Cast kind operand) = number_if (is_scalar kind && is_number operand)
+typed_layer structures names (CExpr-F.ToInt operand) = number_if (is_number operand)
+typed_layer structures names (CExpr-F.Address place) = address_of place
+typed_layer structures names (CExpr-F.Literal bytes) = Leads Byte
+
+-- a declared name
+abbrev pub Entry : Type 0
+Entry = List ℕ × Typed
+
+-- the names of the innermost block, those around it, and the structures
+pub record Scope : Type 0 where
+  pub here : List Entry
+  pub around : List Entry
+  pub structures : List Structure
+
+-- the first of a name, or another type
+abbrev pub first_or : Typed → List ℕ → List Entry → Typed
+first_or other name [] = other
+first_or other name (entry ∷ entries) = if bytes_eq name entry.0 then entry.1 else first_or other name entries
+
+abbrev pub is_declared : List ℕ → List Entry → Bool
+is_declared name entries = list_any (λ entry. bytes_eq name entry.0) entries
+
+abbrev pub library_object : List ℕ → Typed
+library_object name = if bytes_eq name (codes "stderr") then Errors else Ill
+
+abbrev pub type_of_name : Scope → List ℕ → Typed
+type_of_name scope name = first_or (first_or (library_object name) name scope.around) name scope.here
+
+abbrev pub type_of : Scope → CExpr → Typed
+type_of scope = fold-CExpr Typed (typed_layer scope.structures (type_of_name scope))
+
+-- what a parameter takes; `int` and `int32_t` are one type
+pub data Taken : Type 0 where
+  ANumber : (kind : CType) → Taken
+  APointer : (kind : CType) → Taken
+  AStream : Taken
+
+abbrev pub same_taken : Taken → Taken → Bool
+same_taken (ANumber a) (ANumber b) = same_type a b
+same_taken (APointer a) (APointer b) = same_type a b
+same_taken AStream AStream = true
+same_taken a b = false
+
+abbrev pub same_parameters : List Taken → List Taken → Bool
+same_parameters [] [] = true
+same_parameters (p ∷ ps) (q ∷ qs) = same_taken p q && same_parameters ps qs
+same_parameters ps qs = false
+
+abbrev pub same_result : CResult → CResult → Bool
+same_result result.Void result.Void = true
+same_result result.Int64 result.Int64 = true
+same_result result.Int result.Int = true
+same_result a b = false
+
+-- a function as it is declared
+pub record Signature : Type 0 where
+  pub name : List ℕ
+  pub gives : CResult
+  pub takes : List Taken
+
+abbrev pub same_signature : Signature → Signature → Bool
+same_signature a b = bytes_eq a.name b.name && same_result a.gives b.gives && same_parameters a.takes b.takes
+
+-- the library's functions that are called (7.19.7, 7.20.4.3)
+abbrev pub library : List Signature
+library = record { name = codes "putchar"; gives = result.Int; takes = ANumber Int32 ∷ [] } ∷ record { name = codes "getchar"; gives = result.Int; takes = [] } ∷ record { name = codes "fputc"; gives = result.Int; takes = ANumber Int32 ∷ AStream ∷ [] } ∷ record { name = codes "exit"; gives = result.Void; takes = ANumber Int32 ∷ [] } ∷ []
+
+abbrev pub takes_argument : Taken → Typed → Bool
+takes_argument (ANumber kind) t = is_number t
+takes_argument (APointer kind) t = leads_to kind t
+takes_argument AStream t = is_errors t
+
+abbrev pub takes_arguments : List Taken → List Typed → Bool
+takes_arguments [] [] = true
+takes_arguments (p ∷ ps) (t ∷ ts) = takes_argument p t && takes_arguments ps ts
+takes_arguments ps ts = false
+
+abbrev pub signature_of : List ℕ → List Signature → Option Signature
+signature_of name [] = None
+signature_of name (s ∷ ss) = if bytes_eq name s.name then Some s else signature_of name ss
+
+-- what a call of the function gives, if it takes the arguments
+abbrev pub given_by : Option Signature → List Typed → Option CResult
+given_by None arguments = None
+given_by (Some s) arguments = if takes_arguments s.takes arguments then Some s.gives else None
+
+-- what a call gives; a name that an object has calls nothing
+abbrev pub call_gives : List Signature → Scope → List ℕ → List CExpr → Option CResult
+call_gives known scope callee arguments =
+    if is_declared callee scope.here || is_declared callee scope.around then None else given_by (signature_of callee known) (map (type_of scope) arguments)
+
+abbrev pub is_void : CResult → Bool
+is_void result.Void = true
+is_void r = false
+
+abbrev pub is_call : Option CResult → Bool
+is_call None = false
+is_call (Some r) = true
+
+abbrev pub is_value : Option CResult → Bool
+is_value None = false
+is_value (Some r) = not (is_void r)
+
+-- a number or a structure may be assigned to an object, and a pointer to a pointer (6.5.16.1)
+abbrev pub may_assign : Typed → Typed → Bool
+may_assign (Object kind) t = takes_value kind t
+may_assign (Leads kind) t = leads_to kind t
+may_assign place t = false
+
+-- The scope behind a statement, if the statement is right in the scope before it.
+pub record Scoping : Type 0 where
+  pub behind : Scope → Option Scope
+
+abbrev pub kept_if : Bool → Scope → Option Scope
+kept_if right scope = if right then Some scope else None
+
+-- a name once in a block, and none that is the library's macro (7.1.3)
+abbrev pub declared : List ℕ → Typed → Scope → Option Scope
+declared name t scope = if bytes_eq name (codes "stderr") then None else if is_declared name scope.here then None else Some (record { here = (name, t) ∷ scope.here; around = scope.around; structures = scope.structures })
+
+abbrev pub has_structure : List ℕ → List Structure → Bool
+has_structure tag structures = list_any (λ s. bytes_eq tag s.tag) structures
+
+-- whether the type is declared, with its members (6.7, 7)
+abbrev pub is_known : List Structure → CType → Bool
+is_known structures (type.Struct tag) = has_structure tag structures
+is_known structures kind = true
+
+-- a name of an object, an array or a pointer with this type or elements of it
+abbrev pub declared_as : CType → List ℕ → Typed → Scope → Option Scope
+declared_as kind name t scope = if is_known scope.structures kind then declared name t scope else None
+
+-- the name is in scope in its own initializer (6.2.1, 7)
+abbrev pub initialized : Option Scope → (Scope → Bool) → Option Scope
+initialized None test = None
+initialized (Some scope) test = kept_if (test scope) scope
+
+abbrev pub is_right : Option Scope → Bool
+is_right None = false
+is_right (Some scope) = true
+
+abbrev pub on_scope : Option Scope → (Scope → Option Scope) → Option Scope
+on_scope None go = None
+on_scope (Some scope) go = go scope
+
+abbrev pub in_turn : List Scoping → Scope → Option Scope
+in_turn [] scope = Some scope
+in_turn (scoping ∷ scopings) scope = on_scope (scoping.behind scope) (in_turn scopings)
+
+-- a block is a scope of its own (6.8.2)
+abbrev pub inside : Scope → Scope
+inside scope = record { here = []; around = scope.here ++ scope.around; structures = scope.structures }
+
+abbrev pub is_block : List Scoping → Scope → Bool
+is_block scopings scope = is_right (in_turn scopings (inside scope))
+
+-- one shape of a statement in a function that gives this, where these functions are declared (6.7, 6.8)
+abbrev pub scoping_layer : List Signature → CResult → CStmt-F Scoping → Scoping
+scoping_layer known gives (CStmt-F.Declare kind name) = record { behind = λ scope. declared_as kind name (Object kind) scope }
+scoping_layer known gives (CStmt-F.DeclareArray kind name size) = record { behind = λ scope. if is_number (type_of scope size) then declared_as kind name (Array kind) scope else None }
+scoping_layer known gives (CStmt-F.DeclareValue kind name value) = record { behind = λ scope. initialized (declared_as kind name (Object kind) scope) (λ s. takes_value kind (type_of s value)) }
+scoping_layer known gives (CStmt-F.DeclarePointer kind name value) = record { behind = λ scope. initialized (declared_as kind name (Leads kind) scope) (λ s. leads_to kind (type_of s value)) }
+scoping_layer known gives (CStmt-F.DeclareCall kind name callee arguments) = record { behind = λ scope. initialized (declared_as kind name (Object kind) scope) (λ s. takes_value kind Number && is_value (call_gives known s callee arguments)) }
+scoping_layer known gives (CStmt-F.Assign target value) = record { behind = λ scope. kept_if (may_assign (type_of scope target) (type_of scope value)) scope }
+scoping_layer known gives (CStmt-F.AssignCall target callee arguments) = record { behind = λ scope. kept_if (may_assign (type_of scope target) Number && is_value (call_gives known scope callee arguments)) scope }
+scoping_layer known gives (CStmt-F.Call callee arguments) = record { behind = λ scope. kept_if (is_call (call_gives known scope callee arguments)) scope }
+scoping_layer known gives CStmt-F.Return = record { behind = λ scope. kept_if (is_void gives) scope }
+scoping_layer known gives (CStmt-F.ReturnValue value) = record { behind = λ scope. kept_if (not (is_void gives) && is_number (type_of scope value)) scope }
+scoping_layer known gives (CStmt-F.ReturnCall callee arguments) = record { behind = λ scope. kept_if (not (is_void gives) && is_value (call_gives known scope callee arguments)) scope }
+scoping_layer known gives (CStmt-F.Goto label) = record { behind = Some }
+scoping_layer known gives (CStmt-F.Label name) = record { behind = Some }
+scoping_layer known gives (CStmt-F.Block body) = record { behind = λ scope. kept_if (is_block body scope) scope }
+scoping_layer known gives (CStmt-F.While test body) = record { behind = λ scope. kept_if (is_number (type_of scope test) && is_block body scope) scope }
+scoping_layer known gives (CStmt-F.If test then_body) = record { behind = λ scope. kept_if (is_number (type_of scope test) && is_block then_body scope) scope }
+scoping_layer known gives (CStmt-F.IfElse test then_body else_body) = record { behind = λ scope. kept_if (is_number (type_of scope test) && is_block then_body scope && is_block else_body scope) scope }
+
+abbrev pub scoping : List Signature → CResult → CStmt → Scoping
+scoping known gives = fold-CStmt Scoping (scoping_layer known gives)
+
+abbrev pub taken_by : CParameter → Taken
+taken_by (parameter.Value kind name) = ANumber kind
+taken_by (parameter.Pointer kind name) = APointer kind
+
+abbrev pub signature : CResult → List ℕ → List CParameter → Signature
+signature gives name parameters = record { name = name; gives = gives; takes = map taken_by parameters }
+
+-- A parameter is an object of the outermost block (6.2.1, 4), and no structure is handed on by value.
+abbrev pub parameter_scoping : CParameter → Scoping
+parameter_scoping (parameter.Value kind name) = record { behind = λ scope. if is_scalar kind then declared name (Object kind) scope else None }
+parameter_scoping (parameter.Pointer kind name) = record { behind = declared_as kind name (Leads kind) }
+
+-- what a file has declared: functions, objects and structures
+pub record Known : Type 0 where
+  pub functions : List Signature
+  pub objects : List CObject
+  pub structures : List Structure
+
+-- the library's headers are in front
+abbrev pub at_start : Known
+at_start = record { functions = library; objects = []; structures = [] }
+
+abbrev pub entry_of : CObject → Entry
+entry_of o = (object_name o, typed_as o)
+
+-- the names around a function
+abbrev pub outermost : Known → Scope
+outermost known = record { here = []; around = map entry_of known.objects; structures = known.structures }
+
+abbrev pub are_right_parameters : Known → List CParameter → Bool
+are_right_parameters known parameters = is_right (in_turn (map parameter_scoping parameters) (outermost known))
+
+abbrev pub is_right_body : Known → CResult → List CParameter → List CStmt → Bool
+is_right_body known gives parameters body = is_right (on_scope (in_turn (map parameter_scoping parameters) (outermost known)) (in_turn (map (scoping known.functions gives) body)))
+
+-- no two names are the same
+abbrev pub are_different : List (List ℕ) → Bool
+are_different [] = true
+are_different (name ∷ names) = not (list_any (bytes_eq name) names) && are_different names
+
+-- an array of constant size has an element (6.7.5.2, 1)
+abbrev pub has_element : CObject → Bool
+has_element (object.Single kind name) = true
+has_element (object.Array kind name size) = nat_lt 0 size
+
+abbrev pub is_right_object : List Structure → CObject → Bool
+is_right_object structures o = is_known structures (object_kind o) && has_element o
+
+-- objects and members of one name are the same (6.2.7)
+abbrev pub same_object : CObject → CObject → Bool
+same_object (object.Single kind name) (object.Single other name') = same_type kind other && bytes_eq name name'
+same_object (object.Array kind name size) (object.Array other name' size') = same_type kind other && bytes_eq name name' && size == size'
+same_object a b = false
+
+abbrev pub same_objects : List CObject → List CObject → Bool
+same_objects [] [] = true
+same_objects (x ∷ xs) (y ∷ ys) = same_object x y && same_objects xs ys
+same_objects xs ys = false
+
+abbrev pub has_object : List ℕ → List CObject → Bool
+has_object name objects = list_any (λ o. bytes_eq name (object_name o)) objects
+
+abbrev pub has_name : List ℕ → List Signature → Bool
+has_name name ss = list_any (λ s. bytes_eq name s.name) ss
+
+-- Declarations of one name agree with the one before, and none makes `static` what was declared before (6.2.2, 7).
+abbrev pub agrees_with : Option Signature → Bool → Signature → Bool
+agrees_with None is_static s = true
+agrees_with (Some other) true s = false
+agrees_with (Some other) false s = same_signature s other
+
+-- A function has no name of an object.
+abbrev pub is_right_function : Known → Bool → Signature → Bool
+is_right_function known is_static s = agrees_with (signature_of s.name known.functions) is_static s && not (has_object s.name known.objects) && not (bytes_eq s.name (codes "stderr"))
+
+-- what a file has declared behind an item
+abbrev pub with_item : CItem → Known → Known
+with_item (item.Struct tag members) known = record { functions = known.functions; objects = known.objects; structures = record { tag = tag; members = members } ∷ known.structures }
+with_item (item.Object is_extern o) known = record { functions = known.functions; objects = o ∷ known.objects; structures = known.structures }
+with_item (Prototype gives name parameters) known = record { functions = signature gives name parameters ∷ known.functions; objects = known.objects; structures = known.structures }
+with_item (Function is_static gives name parameters body) known = record { functions = signature gives name parameters ∷ known.functions; objects = known.objects; structures = known.structures }
+
+-- An item behind those that declare what is known. A function may call itself, so its body knows it.
+abbrev pub is_right_item : CItem → Known → Bool
+is_right_item (item.Struct tag members) known = not (has_structure tag known.structures) && are_different (map object_name members) && list_all (is_right_object known.structures) members
+is_right_item (item.Object is_extern o) known = is_right_object known.structures o && not (has_name (object_name o) known.functions) && not (bytes_eq (object_name o) (codes "stderr")) && list_all (λ other. not (bytes_eq (object_name o) (object_name other)) || same_object o other) known.objects
+is_right_item (Prototype gives name parameters) known = is_right_function known false (signature gives name parameters) && are_right_parameters known parameters
+is_right_item (Function is_static gives name parameters body) known = is_right_function known is_static (signature gives name parameters) && is_right_body (with_item (Function is_static gives name parameters body) known) gives parameters body
+
+-- items behind those that declare what is known
+abbrev pub are_right : List CItem → Known → Bool
+are_right [] known = true
+are_right (item ∷ items) known = is_right_item item known && are_right items (with_item item known)
+
+-- what is declared behind items
+abbrev pub known_behind : List CItem → Known → Known
+known_behind [] known = known
+known_behind (item ∷ items) known = known_behind items (with_item item known)
+
+-- a file, with the library's headers
+abbrev pub is_right_file : CFile → Bool
+is_right_file file = are_right file.items at_start
+
+-- the functions that an item defines, and those of them that other files see
+abbrev pub defined_by : CItem → List Signature
+defined_by (Function is_static gives name parameters body) = signature gives name parameters ∷ []
+defined_by item = []
+
+abbrev pub external_by : CItem → List Signature
+external_by (Function false gives name parameters body) = signature gives name parameters ∷ []
+external_by item = []
+
+abbrev pub functions_of : CFile → List Signature
+functions_of file = flat_map defined_by file.items
+
+abbrev pub externals_of : List CFile → List Signature
+externals_of files = flat_map (λ file. flat_map external_by file.items) files
+
+-- no two have one name
+abbrev pub are_distinct : List Signature → Bool
+are_distinct [] = true
+are_distinct (s ∷ ss) = not (has_name s.name ss) && are_distinct ss
+
+-- the functions that other files may see, as an item declares them
+abbrev pub shown_by : CItem → List Signature
+shown_by (Prototype gives name parameters) = signature gives name parameters ∷ []
+shown_by (Function false gives name parameters body) = signature gives name parameters ∷ []
+shown_by item = []
+
+abbrev pub shown_in : List CFile → List Signature
+shown_in files = flat_map (λ file. flat_map shown_by file.items) files
+
+-- declarations of one name are the same
+abbrev pub are_agreed : List Signature → Bool
+are_agreed [] = true
+are_agreed (s ∷ ss) = list_all (λ other. not (bytes_eq s.name other.name) || same_signature s other) ss && are_agreed ss
+
+-- the objects that an item declares, and those that it defines (6.9.2, 1 and 2)
+abbrev pub objects_by : CItem → List CObject
+objects_by (item.Object is_extern o) = o ∷ []
+objects_by item = []
+
+abbrev pub defined_objects_by : CItem → List CObject
+defined_objects_by (item.Object false o) = o ∷ []
+defined_objects_by item = []
+
+abbrev pub objects_in : List CFile → List CObject
+objects_in files = flat_map (λ file. flat_map objects_by file.items) files
+
+abbrev pub defined_objects : List CFile → List CObject
+defined_objects files = flat_map (λ file. flat_map defined_objects_by file.items) files
+
+abbrev pub are_same_objects : List CObject → Bool
+are_same_objects [] = true
+are_same_objects (o ∷ os) = list_all (λ other. not (bytes_eq (object_name o) (object_name other)) || same_object o other) os && are_same_objects os
+
+abbrev pub structures_by : CItem → List Structure
+structures_by (item.Struct tag members) = record { tag = tag; members = members } ∷ []
+structures_by item = []
+
+abbrev pub structures_in : List CFile → List Structure
+structures_in files = flat_map (λ file. flat_map structures_by file.items) files
+
+-- structures of one tag have the same members in the same order (6.2.7, 1)
+abbrev pub are_same_structures : List Structure → Bool
+are_same_structures [] = true
+are_same_structures (s ∷ ss) = list_all (λ other. not (bytes_eq s.tag other.tag) || same_objects s.members other.members) ss && are_same_structures ss
+
+-- each statement of a block does
+abbrev pub all_do : List Bool → Bool
+all_do = list_all (λ does. does)
+
+-- one shape of a statement: whether each function that it calls passes the test
+abbrev pub calls_layer : (List ℕ → Bool) → CStmt-F Bool → Bool
+calls_layer test (CStmt-F.DeclareCall kind name callee arguments) = test callee
+calls_layer test (CStmt-F.AssignCall target callee arguments) = test callee
+calls_layer test (CStmt-F.Call callee arguments) = test callee
+calls_layer test (CStmt-F.ReturnCall callee arguments) = test callee
+calls_layer test (CStmt-F.Block body) = all_do body
+calls_layer test (CStmt-F.While condition body) = all_do body
+calls_layer test (CStmt-F.If condition then_body) = all_do then_body
+calls_layer test (CStmt-F.IfElse condition then_body else_body) = all_do then_body && all_do else_body
+calls_layer test stmt = true
+
+abbrev pub calls_only : (List ℕ → Bool) → CStmt → Bool
+calls_only test = fold-CStmt Bool (calls_layer test)
+
+abbrev pub item_calls_only : (List ℕ → Bool) → CItem → Bool
+item_calls_only test (Function is_static gives name parameters body) = list_all (calls_only test) body
+item_calls_only test item = true
+
+-- the library has the function, or the file, or another file that shows it
+abbrev pub is_defined : List CFile → CFile → List ℕ → Bool
+is_defined files file name = has_name name library || has_name name (functions_of file) || has_name name (externals_of files)
+
+-- whether an item is no declaration of an object that no file defines
+abbrev pub declares_defined : List CFile → CItem → Bool
+declares_defined files (item.Object is_extern o) = has_object (object_name o) (defined_objects files)
+declares_defined files item = true
+
+-- a file without its declarations of objects that no file defines
+abbrev pub with_defined : List CFile → CFile → CFile
+with_defined files file = record { items = filter (declares_defined files) file.items }
+
+-- A statement: the label that it is, whether it declares an array whose size is no constant, and whether each jump
+-- in it leads to one of these labels or to one at the end of a block in it.
+pub record Jumps : Type 0 where
+  pub label : List (List ℕ)
+  pub is_variable : Bool
+  pub lead : List (List ℕ) → Bool
+
+-- The label at the end of these statements, if a jump from before them reaches it: none goes past the declaration
+-- of an array whose size is no constant (6.8.6.1, 1).
+abbrev pub label_behind : List Jumps → List (List ℕ)
+label_behind [] = []
+label_behind (j ∷ []) = j.label
+label_behind (j ∷ k ∷ js) = if j.is_variable then [] else label_behind (k ∷ js)
+
+abbrev pub lead_in : List Jumps → List (List ℕ) → Bool
+lead_in [] labels = true
+lead_in (j ∷ js) labels = j.lead (label_behind js ++ labels) && lead_in js labels
+
+abbrev pub constant_layer : CExpr-F Bool → Bool
+constant_layer (CExpr-F.Constant value) = true
+constant_layer e = false
+
+abbrev pub is_constant : CExpr → Bool
+is_constant = fold-CExpr Bool constant_layer
+
+-- a statement without labels and jumps
+abbrev pub no_jump : Bool → Jumps
+no_jump is_variable = record { label = []; is_variable = is_variable; lead = λ labels. true }
+
+abbrev pub inner_jumps : (List (List ℕ) → Bool) → Jumps
+inner_jumps lead = record { label = []; is_variable = false; lead = lead }
+
+abbrev pub jumps_layer : CStmt-F Jumps → Jumps
+jumps_layer (CStmt-F.DeclareArray kind name size) = no_jump (not (is_constant size))
+jumps_layer (CStmt-F.Goto label) = inner_jumps (λ labels. list_any (bytes_eq label) labels)
+jumps_layer (CStmt-F.Label name) = record { label = name ∷ []; is_variable = false; lead = λ labels. true }
+jumps_layer (CStmt-F.Block body) = inner_jumps (lead_in body)
+jumps_layer (CStmt-F.While test body) = inner_jumps (lead_in body)
+jumps_layer (CStmt-F.If test then_body) = inner_jumps (lead_in then_body)
+jumps_layer (CStmt-F.IfElse test then_body else_body) = inner_jumps (λ labels. lead_in then_body labels && lead_in else_body labels)
+jumps_layer stmt = no_jump false
+
+abbrev pub jumps : CStmt → Jumps
+jumps = fold-CStmt Jumps jumps_layer
+
+abbrev pub all_labels : List (List (List ℕ)) → List (List ℕ)
+all_labels = flat_map (λ labels. labels)
+
+-- the labels in a statement
+abbrev pub labels_layer : CStmt-F (List (List ℕ)) → List (List ℕ)
+labels_layer (CStmt-F.Label name) = name ∷ []
+labels_layer (CStmt-F.Block body) = all_labels body
+labels_layer (CStmt-F.While test body) = all_labels body
+labels_layer (CStmt-F.If test then_body) = all_labels then_body
+labels_layer (CStmt-F.IfElse test then_body else_body) = all_labels then_body ++ all_labels else_body
+labels_layer stmt = []
+
+abbrev pub labels : CStmt → List (List ℕ)
+labels = fold-CStmt (List (List ℕ)) labels_layer
+
+-- A function has no label twice (6.8.1, 3), and each jump leads to the label at the end of a block around it.
+abbrev pub has_right_jumps : CItem → Bool
+has_right_jumps (Function is_static gives name parameters body) = are_different (all_labels (map labels body)) && lead_in (map jumps body) []
+has_right_jumps item = true
+
+-- `main` takes nothing (5.1.2.2.1)
+abbrev pub is_main : Signature → Bool
+is_main s = bytes_eq s.name (codes "main") && same_parameters s.takes []
+
+pub record IsProgram (files : List CFile) : Type 0 where
+  pub right : IsTrue (list_all is_right_file files)
+  -- a file defines each of its functions once, and none of the library's
+  pub once : IsTrue (list_all (λ file. are_distinct (library ++ functions_of file)) files)
+  -- what files see of each other is defined once, and declared alike
+  pub external : IsTrue (are_distinct (externals_of files))
+  pub objects : IsTrue (are_different (map object_name (defined_objects files)))
+  pub apart : IsTrue (list_all (λ o. not (has_name (object_name o) (shown_in files))) (objects_in files))
+  pub agreed : IsTrue (are_agreed (shown_in files))
+  pub same : IsTrue (are_same_objects (objects_in files))
+  pub structures : IsTrue (are_same_structures (structures_in files))
+  -- what a file calls is defined
+  pub defined : IsTrue (list_all (λ file. list_all (item_calls_only (is_defined files file)) file.items) files)
+  -- an object that a file uses is defined: the file is right also without the declarations of others
+  pub used : IsTrue (list_all (λ file. is_right_file (with_defined files file)) files)
+  pub jumps : IsTrue (list_all (λ file. list_all has_right_jumps file.items) files)
+  pub main : IsTrue (list_any is_main (externals_of files))

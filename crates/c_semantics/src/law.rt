@@ -1,0 +1,70 @@
+//! Laws of the definitions: each is the contract of a function that does nothing.
+
+ghost use Rattle.std.specs.Prelude.{ℕ, List, [], ◌∷◌, codes};
+ghost use Rattle.lf_base.specs.Near.{IsMonotone};
+ghost use Rattle.c_nodes.specs.declared.tree.CFile.{CFile};
+ghost use Rattle.c_semantics.specs.CMeaning.{CMeaning};
+ghost use Rattle.c_semantics.specs.Linking.{IsProgram};
+ghost use Rattle.c_semantics.specs.SmallFiles.{Unlinked, leads_nowhere, jumps_past_array, label_twice, no_member, no_structure, number_as_structure, undefined_object, unused_object, other_type, defines_again, Writes, IsUndefined, IsCut, EndsWith, file, turns, jumps, structures, wraps, stops_early, zeros, shares, sets, forever, leaves, overflow, int_overflow, by_zero, least_by_minus_one, int32_cast, int_cast, int32_store, unset_read, unset_copy, outside, pointer_outside, outside_member, no_elements, literal_write};
+
+/// Larger bounds keep the end of a C program with its output and its status, and never shorten what it
+/// writes.
+pub fn larger_bounds()
+    ensures { (files : List CFile) (input : List ℕ) → IsMonotone (CMeaning files input) }
+{}
+
+/// Loops, jumps, structures, conversions, tests and objects outside functions, each in a small file that writes what
+/// the standard says and ends with status 0.
+pub fn small_files_end()
+    ensures turns { Writes (file turns ∷ []) (codes "aaa") }
+    ensures jumps { Writes (file jumps ∷ []) (codes "ab") }
+    ensures structures { Writes (file structures ∷ []) (codes "ABC") }
+    ensures wraps { Writes (file wraps ∷ []) (codes "A") }
+    ensures stops_early { Writes (file stops_early ∷ []) (codes "bc") }
+    ensures zeros { Writes (file zeros ∷ []) (codes "AB") }
+    ensures shared { Writes (file shares ∷ file sets ∷ []) (codes "AB") }
+    ensures leaves { EndsWith leaves 7 }
+    ensures cut { IsCut forever 3 (codes "aaa") }
+{}
+
+/// What the standard leaves undefined is undefined, each case in a small file.
+pub fn undefined_cases()
+    ensures overflow { IsUndefined overflow }
+    ensures int_overflow { IsUndefined int_overflow }
+    ensures by_zero { IsUndefined by_zero }
+    ensures least_by_minus_one { IsUndefined least_by_minus_one }
+    ensures int32_cast { IsUndefined int32_cast }
+    ensures int_cast { IsUndefined int_cast }
+    ensures int32_store { IsUndefined int32_store }
+    ensures unset_read { IsUndefined unset_read }
+    ensures unset_copy { IsUndefined unset_copy }
+    ensures outside { IsUndefined outside }
+    ensures pointer_outside { IsUndefined pointer_outside }
+    ensures outside_member { IsUndefined outside_member }
+    ensures no_elements { IsUndefined no_elements }
+    ensures literal_write { IsUndefined literal_write }
+{}
+
+/// Which small files are one program.
+pub fn small_programs()
+    ensures turns { IsProgram (file turns ∷ []) }
+    ensures jumps { IsProgram (file jumps ∷ []) }
+    ensures structures { IsProgram (file structures ∷ []) }
+    ensures stops_early { IsProgram (file stops_early ∷ []) }
+    ensures zeros { IsProgram (file zeros ∷ []) }
+    ensures unused_object { IsProgram (file unused_object ∷ []) }
+    ensures shared { IsProgram (file shares ∷ file sets ∷ []) }
+{}
+
+/// Small files that are no program: each breaks one rule.
+pub fn no_programs()
+    ensures leads_nowhere { Unlinked (file leads_nowhere ∷ []) }
+    ensures jumps_past_array { Unlinked (file jumps_past_array ∷ []) }
+    ensures label_twice { Unlinked (file label_twice ∷ []) }
+    ensures no_member { Unlinked (file no_member ∷ []) }
+    ensures no_structure { Unlinked (file no_structure ∷ []) }
+    ensures number_as_structure { Unlinked (file number_as_structure ∷ []) }
+    ensures undefined_object { Unlinked (file undefined_object ∷ []) }
+    ensures other_type { Unlinked (file shares ∷ file other_type ∷ []) }
+    ensures defines_again { Unlinked (file shares ∷ file defines_again ∷ []) }
+{}

@@ -1,6 +1,6 @@
 -- Straight-line code: one law for both directions, with no premise on what writes more.
-use Rattle.std.proofs.Common.{◌≡◌, Option, refl, sym, ap, subst}
-use Rattle.lf_base.specs.Outcome.{Location, Written, Ended, Cut, Wrong, Owed}
+use Rattle.std.proofs.Common.{Option, refl, sym, ap, subst}
+use Rattle.lf_base.specs.Outcome.{Location, Ended, Cut, Wrong, Owed}
 use Rattle.lf_base.specs.Acts.{Stretch, Going, Stopped, Act, then_do, bind, give}
 use Rattle.lf_base.specs.Order.{Link, Below, BelowFrom}
 use Rattle.lf_base.specs.Alike.{Alike, AlikeFrom}

@@ -1,7 +1,7 @@
 -- A loop whose count is known beside one that keeps its count in its state and tests it inside its body, both ways.
-use Rattle.std.proofs.Common.{◌≡◌, ℕ, zero, suc, ◌+◌, ◌≤◌, Bool, true, Option, Some, None, refl, arith}
+use Rattle.std.proofs.Common.{ℕ, zero, suc, ◌+◌, ◌≤◌, true, Option, Some, None, refl, arith}
 use Rattle.lf_base.specs.Outcome.{Location, Owed}
-use Rattle.lf_base.specs.Acts.{Act, bind, give, cut, next_or, iterate}
+use Rattle.lf_base.specs.Acts.{Act, give, next_or, iterate}
 use Rattle.lf_base.specs.Order.{Grows, Link, BelowFrom}
 use Rattle.lf_base.specs.Loops.{counted, Exited, Entered}
 use Rattle.lf_base.proofs.Stretches.{Left, grows_bind, grows_give, grows_cut, grows_next, grows_iterate, below_bind}

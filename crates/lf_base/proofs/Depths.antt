@@ -2,7 +2,7 @@
 use Rattle.std.proofs.Common.{◌≡◌, ℕ, zero, suc, ◌+◌, ◌≤◌, Option, arith}
 use Rattle.lf_base.specs.Outcome.{Location, Owed}
 use Rattle.lf_base.specs.Acts.{Act}
-use Rattle.lf_base.specs.Order.{Grows, Link, BelowFrom}
+use Rattle.lf_base.specs.Order.{Grows, Link}
 use Rattle.lf_base.specs.Monotone.{NoShorter}
 use Rattle.lf_base.specs.Depth.{Callee, calls, CalleeGrows, CalleeLonger, CallsBelow}
 use Rattle.lf_base.proofs.Stretches.{grows_cut}

@@ -1,6 +1,6 @@
 -- What goes no further than an act that is below another is below it: a helper at few turns, from what it does at
 -- enough of them.
-use Rattle.std.proofs.Common.{◌≡◌, Option, sym, ap, subst, ◌∙◌}
+use Rattle.std.proofs.Common.{Option, sym, ap, subst, ◌∙◌}
 use Rattle.lf_base.specs.Outcome.{Location, Written, Ended, Cut, Wrong, Owed, Any}
 use Rattle.lf_base.specs.Acts.{Stretch, Going, Stopped, Act}
 use Rattle.lf_base.specs.Order.{ExtendsIn, Link, Below, BelowFrom, Same}

@@ -1,7 +1,7 @@
 -- Acts made of equal acts are equal: one lemma a combinator.
 use Rattle.std.proofs.Common.{◌≡◌, ℕ, zero, suc, Bool, true, false, List, Option, Some, None, refl, sym, ap, subst, ◌∙◌}
-use Rattle.lf_base.specs.Outcome.{Location, Written, Fault, Outcome, Ended, Cut, Wrong}
-use Rattle.lf_base.specs.Acts.{Stretch, Going, Stopped, Act, then_do, bind, give, look, change, print, complain, stop, trap, cut, given, next_or, within, turn, iterate, outcome_of}
+use Rattle.lf_base.specs.Outcome.{Location, Written, Fault, Ended, Cut, Wrong}
+use Rattle.lf_base.specs.Acts.{Stretch, Going, Stopped, Act, then_do, bind, give, look, change, print, complain, stop, trap, cut, next_or, within, turn, iterate, outcome_of}
 use Rattle.lf_base.specs.declared.trap.Trap.{Trap}
 use Rattle.lf_base.specs.Equal.{World, Sound, EqualAt, Equal, Always, Anyhow}
 

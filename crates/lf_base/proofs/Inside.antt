@@ -1,7 +1,7 @@
 -- A loop that tests before each turn beside one whose test stands inside its body, both ways.
 use Rattle.std.proofs.Common.{◌≡◌, ℕ, zero, suc, ◌+◌, ◌≤◌, Bool, true, false, cond, Option, Some, None, refl, sym, ap, subst, ◌∙◌, arith}
 use Rattle.lf_base.specs.Outcome.{Location, Written, Ended, Cut, Wrong, Owed}
-use Rattle.lf_base.specs.Acts.{Stretch, Going, Stopped, Act, then_do, bind, give, cut, next_or, turn, iterate}
+use Rattle.lf_base.specs.Acts.{Stretch, Going, Stopped, Act, then_do, give, cut, next_or, turn, iterate}
 use Rattle.lf_base.specs.Order.{Grows, Link, Below, BelowFrom}
 use Rattle.lf_base.specs.Loops.{checked, with_test, landing, left_with, half, once, OrOut, Exited, OrIn, Entered}
 use Rattle.lf_base.proofs.Stretches.{Left, Tested, grows_bind, grows_give, grows_next, grows_iterate, below_bind, extends_then}

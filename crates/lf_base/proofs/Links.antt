@@ -1,6 +1,6 @@
 -- Links of near meanings, one behind another, and wider bounds.
 use Rattle.std.proofs.Common.{◌≡◌, ℕ, ◌+◌, ◌*◌, ◌≤◌, List, refl, sym, ap, subst, ◌∙◌, arith, length}
-use Rattle.lf_base.specs.Outcome.{Location, Written, Fault, Outcome, Ended, Cut, Wrong, Extends, Owed, Never, Meaning}
+use Rattle.lf_base.specs.Outcome.{Written, Outcome, Ended, Cut, Wrong, Extends, Owed, Never, Meaning}
 use Rattle.lf_base.specs.Near.{IsNearBy, slack, Near, Agree, IsMonotone}
 use Rattle.lf_base.proofs.Outcomes.{extends_more, keeps_more}
 

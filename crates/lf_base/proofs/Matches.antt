@@ -1,6 +1,6 @@
 -- Acts made of acts that match do: one lemma a combinator, for a pass whose states stand beside the first's.
 use Rattle.std.proofs.Common.{◌≡◌, ℕ, zero, suc, Bool, true, false, List, Option, Some, None, refl, sym, ap, subst}
-use Rattle.lf_base.specs.Outcome.{Location, Written, Fault, Outcome, Ended, Cut, Wrong}
+use Rattle.lf_base.specs.Outcome.{Location, Written, Fault, Ended, Cut, Wrong}
 use Rattle.lf_base.specs.Acts.{Stretch, Going, Stopped, Act, then_do, bind, give, look, change, print, complain, stop, trap, cut, next_or, within, turn, iterate, outcome_of}
 use Rattle.lf_base.specs.declared.trap.Trap.{Trap}
 use Rattle.lf_base.specs.Equal.{World, MatchAt, Match, Always, Anyhow}

@@ -7,12 +7,6 @@ use Rattle.lf_base.specs.Loops.{with_test, Exited}
 use Rattle.lf_base.proofs.Outcomes.{begun_same}
 use Rattle.lf_base.proofs.Stretches.{Left, Tested, below_weaker}
 use Rattle.lf_base.proofs.Inside.{inside_there}
-use Rattle.lf_base.proofs.Alike as alike
-use Rattle.lf_base.proofs.Counting as counting
-use Rattle.lf_base.proofs.Depths as depths
-use Rattle.lf_base.proofs.Enough as enough
-use Rattle.lf_base.proofs.Equals as equals
-use Rattle.lf_base.proofs.Matches as matches
 
 abbrev Q : (S : Type 0) → S → S → Type 0
 Q S s s' = s' ≡ s

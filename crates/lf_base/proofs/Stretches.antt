@@ -1,7 +1,7 @@
 -- The order of outcomes goes through each combinator.
 use Rattle.std.proofs.Common.{◌≡◌, ℕ, zero, suc, ◌≤◌, Bool, true, false, List, Option, Some, None, refl, sym, ap, subst, arith, [], ◌∷◌}
 use Rattle.std.specs.List.{AllByRecursion}
-use Rattle.lf_base.specs.Outcome.{Location, Written, Fault, Ended, Cut, Wrong, IsBegun, Began, Away, Owed, Any}
+use Rattle.lf_base.specs.Outcome.{Location, Written, Fault, Ended, Cut, Wrong, IsBegun, Began, Owed, Any}
 use Rattle.lf_base.specs.Acts.{Stretch, Going, Stopped, Act, then_do, bind, give, look, change, print, complain, stop, trap, cut, wrong, away, given, next_or, in_order, within, turn, iterate}
 use Rattle.lf_base.specs.declared.trap.Trap.{Trap}
 use Rattle.lf_base.specs.Order.{ExtendsIn, Grows, Link, Below, BelowFrom, Same}

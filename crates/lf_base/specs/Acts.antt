@@ -1,6 +1,6 @@
 -- The few combinators of which every meaning is made: of Fortran, of the tree and of C. An act goes on
 -- from a state and from what has been written so far. It ends by itself: `n` bounds the turns of a loop.
-use Rattle.std.specs.Prelude.{ℕ, zero, suc, ◌+◌, ◌%◌, Bool, true, false, List, [], ◌∷◌, ◌++◌, Option, Some, None}
+use Rattle.std.specs.Prelude.{ℕ, zero, suc, ◌%◌, Bool, true, false, List, [], ◌∷◌, ◌++◌, Option, Some, None}
 use Rattle.lf_base.specs.Outcome.{Location, Written, Fault, Away, Outcome, Ended, Cut, Wrong}
 use Rattle.lf_base.specs.Traps.{trap_status, trap_text}
 use Rattle.lf_base.specs.declared.trap.Trap.{Trap}

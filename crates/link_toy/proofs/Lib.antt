@@ -1,0 +1,12 @@
+pub mod Back
+pub mod Cells
+pub mod Counted
+pub mod Growth
+pub mod Helper
+pub mod Instance
+pub mod Larger
+pub mod Multiplying
+pub mod Nearness
+pub mod Straight
+pub mod There
+pub mod Values

@@ -1,0 +1,11 @@
+use Rattle.link_toy.proofs.Instance.{descends_here, descends_there, too_shallow}
+use Rattle.link_toy.proofs.law.descends_runs.Goals as goal
+
+pub returns-clause-source : goal.returns-clause-source
+returns-clause-source c = descends_here
+
+pub returns-clause-target : goal.returns-clause-target
+returns-clause-target c = descends_there
+
+pub returns-clause-shallow : goal.returns-clause-shallow
+returns-clause-shallow c = too_shallow

@@ -1,0 +1,6 @@
+pub mod Example
+pub mod Meaning
+pub mod Relation
+pub mod Source
+pub mod Target
+pub mod Translation

@@ -7,7 +7,9 @@ use Rattle.lf_base.specs.declared.trap.Trap.TheVariants.{IntegerOverflow}
 use Rattle.lf_base.specs.Outcome.{Ended, Cut, written}
 use Rattle.link_toy.specs.Source.{is_declared, IsFine}
 use Rattle.link_toy.specs.Meaning.{success, run}
+use Rattle.link_toy.specs.Numbered.{run_numbered}
 use Rattle.link_toy.specs.Target.{run_c}
+use Rattle.link_toy.specs.Temporary.{passed}
 use Rattle.link_toy.specs.Translation.{IsLayout, translated, start_of}
 use Rattle.link_toy.specs.Example.{depth, total, scope, layout, at_line, descends, overflows}
 
@@ -49,6 +51,14 @@ descends_here = refl
 pub descends_there : run_c (start_of layout) (translated layout descends) 3 4 ≡ Ended (written (codes "5\n5\n2\n2\n1\n1\n") []) success None
 unfolding joined digits
 descends_there = refl
+
+pub descends_numbered : run_numbered descends 3 3 ≡ Ended (written (codes "5\n5\n2\n2\n1\n1\n") []) success None
+unfolding joined digits
+descends_numbered = refl
+
+pub descends_passed : run (passed 5 descends) 3 3 ≡ Ended (written (codes "5\n5\n2\n2\n1\n1\n") []) success None
+unfolding joined digits
+descends_passed = refl
 
 pub too_shallow : run descends 3 2 ≡ Cut (written [] [])
 too_shallow = refl

@@ -16,16 +16,16 @@ use Rattle.lf_base.proofs.Inside.{tested_back, mapped_back, landing_back, grows_
 use Rattle.lf_base.proofs.Counting.{grows_counted, counted_back}
 use Rattle.link_toy.specs.Source.{Expression, Statement, Skip, Sequence, Assign, While, Repeat, Exit, Call, Print, Scope, knows, is_fine}
 use Rattle.link_toy.specs.Meaning.{Store, Signal, Leave, leaves, by_name, is_true, opened, enter, leave, largest_factor, value, test, invoke, exec}
-use Rattle.link_toy.specs.Target.{CStatement, Load, Subtract, Constant, Invoke, Set, Forever, Labelled, Memory, set_cell, pushed, open_frame, close_frame, invoke_c, Callable, Procedure, exec_c}
-use Rattle.link_toy.specs.Translation.{Layout, IsLayout, into, while_turn, repeat_turn, translate}
-use Rattle.link_toy.specs.Relation.{Kept, CellsKept, Stands, with_count, in_procedure, in_call, And, Stored, Jumps}
+use Rattle.link_toy.specs.Target.{CStatement, Load, Subtract, Constant, Invoke, Set, Forever, Labelled, Memory, set_cell, call_cells, enter_frame, leave_frame, invoke_c, Callable, Procedure, exec_c}
+use Rattle.link_toy.specs.Translation.{Layout, IsLayout, evaluate, while_turn, repeat_turn, translate}
+use Rattle.link_toy.specs.Relation.{Kept, CellsKept, Stands, with_count, in_procedure, in_call, Besides, InTemporary, ExitJumps}
 use Rattle.link_toy.proofs.Counted.{grows_landing, entered_weaker}
 use Rattle.link_toy.proofs.Growth.{grows_exec, grows_test}
-use Rattle.link_toy.proofs.Helper.{load_then}
-use Rattle.link_toy.proofs.Cells.{count_begins, count_is, count_ends, counts_down, entered, came_back}
+use Rattle.link_toy.proofs.Helper.{after_load}
+use Rattle.link_toy.proofs.Cells.{count_begins, count_is, count_ends, counts_down, call_begins, call_returns}
 use Rattle.link_toy.proofs.Values.{Helps}
 use Rattle.link_toy.proofs.Straight.{LeftThere, LeftBack, stored, assigned, printed}
-use Rattle.link_toy.proofs.There.{tested, tested_out, tested_on, turn_counts}
+use Rattle.link_toy.proofs.There.{behind_test, test_jumps, test_passes, turn_counts}
 
 module _ (scope : Scope) (layout : Layout) (ok : IsLayout scope layout) (n n' : ℕ) (le : n ≤ n') (inner : Callable → Act Memory ℕ) (inner' : ℕ → Act Store (Unit {0})) (g' : (p : ℕ) → Grows (inner' p)) (enough : Callable → Act Memory ℕ) (helps : Helps (n + largest_factor) enough) (to_enough : (st : CStatement) → NoShorter (exec_c n inner st) (exec_c (n + largest_factor) enough st)) where
   abbrev H : Kept → Memory → Store → Type 0
@@ -35,10 +35,10 @@ module _ (scope : Scope) (layout : Layout) (ok : IsLayout scope layout) (n n' : 
   S = Stands scope layout
 
   abbrev J : Kept → ℕ → Link Memory ℕ Store Signal
-  J kept label j m b s = Jumps (S kept) label b s j m
+  J kept label j m b s = ExitJumps (S kept) label b s j m
 
   abbrev StoredBack : Kept → Link Memory (Option ℕ) Store ℕ
-  StoredBack kept o m v s = Stored kept.top (S kept) v s o m
+  StoredBack kept o m v s = InTemporary kept.top (S kept) v s o m
 
   abbrev source : Statement → Act Store (Option Signal)
   source = exec by_name scope n' inner'
@@ -62,10 +62,10 @@ module _ (scope : Scope) (layout : Layout) (ok : IsLayout scope layout) (n n' : 
   abbrev Claim : Statement → Type 0
   Claim st = is_fine scope st ≡ true → (label : ℕ) (kept : Kept) → layout.base ≤ kept.top → BelowFrom Never KeptLocation (H kept) (LeftBack (S kept) label) (code st kept.top label) (source st)
 
-  value_back : (here : Location) (e : Expression) → knows scope e ≡ true → (kept : Kept) → layout.base ≤ kept.top → BelowFrom Never KeptLocation (H kept) (StoredBack kept) (run_code (into layout.object here e kept.top)) (value by_name here e)
+  value_back : (here : Location) (e : Expression) → knows scope e ≡ true → (kept : Kept) → layout.base ≤ kept.top → BelowFrom Never KeptLocation (H kept) (StoredBack kept) (run_code (evaluate layout.object here e kept.top)) (value by_name here e)
   value_back here e f kept low =
-      from_enough Never KeptLocation (StoredBack kept) (H kept) (run_code (into layout.object here e kept.top)) (at_enough (into layout.object here e kept.top)) (value by_name here e) (to_enough (into layout.object here e kept.top))
-      (alike_back KeepsLocation Never (S kept) (Stored kept.top (S kept)) (value by_name here e) (at_enough (into layout.object here e kept.top)) (stored scope layout ok kept low more more_enough enough helps here e f))
+      from_enough Never KeptLocation (StoredBack kept) (H kept) (run_code (evaluate layout.object here e kept.top)) (at_enough (evaluate layout.object here e kept.top)) (value by_name here e) (to_enough (evaluate layout.object here e kept.top))
+      (alike_back KeepsLocation Never (S kept) (InTemporary kept.top (S kept)) (value by_name here e) (at_enough (evaluate layout.object here e kept.top)) (stored scope layout ok kept low more more_enough enough helps here e f))
 
   turned : (label : ℕ) (kept : Kept) (o : Option ℕ) (m : Memory) (o' : Option Signal) (s : Store) → LeftThere (S kept) label o' s o m → LeftBack (S kept) label o m o' s
   turned label kept None m None s r = r
@@ -95,21 +95,21 @@ module _ (scope : Scope) (layout : Layout) (ok : IsLayout scope layout) (n n' : 
     Turned = Left Never KeptLocation (H kept) (OrIn (H kept) (J kept label) label)
 
     module _ (b : Act Store (Option Signal)) (rest : Act Memory (Option ℕ)) (h : BelowFrom Never KeptLocation (H kept) (LeftBack (S kept) label) rest b) (gb : Grows b) where
-      after_test : (o : Option ℕ) (v : ℕ) → BelowFrom Never KeptLocation (λ m s. StoredBack kept o m v s) Turned (next_or (tested t label rest) o) (half b (is_true v))
-      after_test (Some j) v m s w r = absurd (cc r.0)
-      after_test None zero m s w r = subst (λ z. Below Never KeptLocation Turned z (half b false s w)) (sym (tested_out t label rest m w r.1.0)) (Some None, s, (refl, r.1.1), refl)
-      after_test None (suc v) m s w r = subst (λ z. Below Never KeptLocation Turned z (half b true s w)) (sym (tested_on t label v rest m w r.1.0)) (mapped_back Never KeptLocation (H kept) (J kept label) label (rest m w) (b s w) (h m s w r.1.1))
+      half_turn : (o : Option ℕ) (v : ℕ) → BelowFrom Never KeptLocation (λ m s. StoredBack kept o m v s) Turned (next_or (behind_test t label rest) o) (half b (is_true v))
+      half_turn (Some j) v m s w r = absurd (cc r.0)
+      half_turn None zero m s w r = subst (λ z. Below Never KeptLocation Turned z (half b false s w)) (sym (test_jumps t label rest m w r.1.0)) (Some None, s, (refl, r.1.1), refl)
+      half_turn None (suc v) m s w r = subst (λ z. Below Never KeptLocation Turned z (half b true s w)) (sym (test_passes t label v rest m w r.1.0)) (mapped_back Never KeptLocation (H kept) (J kept label) label (rest m w) (b s w) (h m s w r.1.1))
 
-      a_turn : BelowFrom Never KeptLocation (H kept) Turned (bind (run_code (into layout.object here e t)) (next_or (tested t label rest))) (once (test by_name here e) b)
+      a_turn : BelowFrom Never KeptLocation (H kept) Turned (bind (run_code (evaluate layout.object here e t)) (next_or (behind_test t label rest))) (once (test by_name here e) b)
       a_turn m s w q =
-          subst (λ z. Below Never KeptLocation Turned (bind (run_code (into layout.object here e t)) (next_or (tested t label rest)) m w) z) (sym (bind_bind (value by_name here e) (λ v. give (is_true v)) (half b) s w))
-          (below_bind Never KeptLocation (H kept) (StoredBack kept) Turned (run_code (into layout.object here e t)) (value by_name here e) (next_or (tested t label rest)) (λ v. half b (is_true v))
-          (value_back here e fine kept low) after_test (λ v. grows_half b gb (is_true v)) m s w q)
+          subst (λ z. Below Never KeptLocation Turned (bind (run_code (evaluate layout.object here e t)) (next_or (behind_test t label rest)) m w) z) (sym (bind_bind (value by_name here e) (λ v. give (is_true v)) (half b) s w))
+          (below_bind Never KeptLocation (H kept) (StoredBack kept) Turned (run_code (evaluate layout.object here e t)) (value by_name here e) (next_or (behind_test t label rest)) (λ v. half b (is_true v))
+          (value_back here e fine kept low) half_turn (λ v. grows_half b gb (is_true v)) m s w q)
 
   while_back : (here : Location) (e : Expression) → knows scope e ≡ true → (body : Statement) (label : ℕ) (kept : Kept) → layout.base ≤ kept.top → BelowFrom Never KeptLocation (H kept) (LeftBack (S kept) (suc label)) (code body kept.top (suc label)) (source body) → BelowFrom Never KeptLocation (H kept) (LeftBack (S kept) label) (code (While here e body) kept.top label) (source (While here e body))
   while_back here e fine body label kept low h =
       let inside : CStatement = translate scope layout body kept.top (suc label) in
-      let turn : CStatement = while_turn (into layout.object here e kept.top) kept.top (suc label) inside in
+      let turn : CStatement = while_turn (evaluate layout.object here e kept.top) kept.top (suc label) inside in
       let gb = grows_exec by_name scope n' inner' g' body in
       below_bind Never KeptLocation (H kept) (Entered (H kept) (J kept (suc label)) (suc label)) (LeftBack (S kept) label) (run_code (Forever turn)) (iterate n' (test by_name here e) (source body)) (landing (eqb (suc label))) (landing leaves)
       (tested_back Never KeptLocation (H kept) (J kept (suc label)) (suc label) n n' le (run_code turn) (test by_name here e) (source body) (grows_test by_name here e) gb (a_turn here e fine (suc label) kept low (source body) (run_code inside) h gb))
@@ -136,10 +136,10 @@ module _ (scope : Scope) (layout : Layout) (ok : IsLayout scope layout) (n n' : 
 
     goes_out : BelowFrom Never KeptLocation (Count 0) (λ o m u s. Entered (Count 0) (J kept (suc label)) (suc label) o m None s) (run_code turn) (give (tt {0}))
     goes_out m s w q =
-        subst (λ z. Below Never KeptLocation (λ o m u s. Entered (Count 0) (J kept (suc label)) (suc label) o m None s) z (Going (tt {0}) s w)) (sym (tested_out kept.top (suc label) (bind (run_code (Set kept.top (Subtract (Load kept.top) (Constant 1)))) (next_or (code body (suc kept.top) (suc label)))) m w (count_is scope layout ok kept low 0 s m q)))
+        subst (λ z. Below Never KeptLocation (λ o m u s. Entered (Count 0) (J kept (suc label)) (suc label) o m None s) z (Going (tt {0}) s w)) (sym (test_jumps kept.top (suc label) (bind (run_code (Set kept.top (Subtract (Load kept.top) (Constant 1)))) (next_or (code body (suc kept.top) (suc label)))) m w (count_is scope layout ok kept low 0 s m q)))
         (tt, s, (refl, q), refl)
 
-    repeat_loop : (count : ℕ) → BelowFrom Never KeptLocation (λ m s. And kept.top count (S kept) s m) (LeftBack (S kept) label) (run_code (Labelled (suc label) (Forever turn))) (bind (counted count n' (source body)) (landing leaves))
+    repeat_loop : (count : ℕ) → BelowFrom Never KeptLocation (λ m s. Besides kept.top count (S kept) s m) (LeftBack (S kept) label) (run_code (Labelled (suc label) (Forever turn))) (bind (counted count n' (source body)) (landing leaves))
     repeat_loop count m s w q =
         below_then Never KeptLocation (Entered (H kept) (J kept (suc label)) (suc label)) (LeftBack (S kept) label) (run_code (Forever turn) m w) (counted count n' (source body) s w) (landing (eqb (suc label))) (landing leaves)
         (below_weaker Never KeptLocation (Entered (Count 0) (J kept (suc label)) (suc label)) (Entered (H kept) (J kept (suc label)) (suc label)) (entered_weaker (Count 0) (H kept) (λ m s r. count_ends scope layout ok kept low 0 s m r) (J kept (suc label)) (suc label)) (run_code (Forever turn) m w) (counted count n' (source body) s w)
@@ -156,36 +156,36 @@ module _ (scope : Scope) (layout : Layout) (ok : IsLayout scope layout) (n n' : 
 
     repeat_back : (here : Location) (e : Expression) → knows scope e ≡ true → BelowFrom Never KeptLocation (H kept) (LeftBack (S kept) label) (code (Repeat here e body) kept.top label) (source (Repeat here e body))
     repeat_back here e known =
-        below_bind Never KeptLocation (H kept) (StoredBack kept) (LeftBack (S kept) label) (run_code (into layout.object here e kept.top)) (value by_name here e) (next_or (run_code (Labelled (suc label) (Forever turn)))) (λ count. bind (counted count n' (source body)) (landing leaves))
+        below_bind Never KeptLocation (H kept) (StoredBack kept) (LeftBack (S kept) label) (run_code (evaluate layout.object here e kept.top)) (value by_name here e) (next_or (run_code (Labelled (suc label) (Forever turn)))) (λ count. bind (counted count n' (source body)) (landing leaves))
         (value_back here e known kept low) begun grows_repeat
 
   module _ (calls_back : (before : ℕ → Option ℕ) (frame p : ℕ) → BelowFrom Never KeptLocation (H (in_procedure layout before frame)) (λ a m a' s. CellsKept (in_procedure layout before frame) m) (inner (Procedure p)) (inner' p)) (label : ℕ) (kept : Kept) (low : layout.base ≤ kept.top) where
-    none_left : (o : Option ℕ) (m : Memory) (o' : Option Signal) (s : Store) → o ≡ None → o' ≡ None → H kept m s → LeftBack (S kept) label o m o' s
-    none_left None m None s e e' h = h
-    none_left None m (Some b) s e e' h = absurd (cc e')
-    none_left (Some j) m None s e e' h = absurd (cc e)
-    none_left (Some j) m (Some b) s e e' h = absurd (cc e)
+    falls_through : (o : Option ℕ) (m : Memory) (o' : Option Signal) (s : Store) → o ≡ None → o' ≡ None → H kept m s → LeftBack (S kept) label o m o' s
+    falls_through None m None s e e' h = h
+    falls_through None m (Some b) s e e' h = absurd (cc e')
+    falls_through (Some j) m None s e e' h = absurd (cc e)
+    falls_through (Some j) m (Some b) s e e' h = absurd (cc e)
 
     called : (p v : ℕ) (m : Memory) (s : Store) (w : Written) → H kept m s → Below Never KeptLocation (LeftBack (S kept) label) (invoke_c kept.top layout.base (layout.object scope.argument) (inner (Procedure p)) v m w) (invoke scope (inner' p) v s w)
     called p v m s w q =
         let arg : ℕ = layout.object scope.argument in
-        let inside : Kept = in_call layout kept (pushed kept.top layout.base arg v m) in
-        below_then Never KeptLocation (λ o i o' i'. (o ≡ None) × (o' ≡ None) × CellsKept inside i) (LeftBack (S kept) label) (bind (inner (Procedure p)) (λ u. give None) (open_frame kept.top layout.base arg v m) w) (bind (inner' p) (λ u. give None) (opened scope v) w) (λ value i later. Going value (close_frame m i) later) (λ value i later. Going value (leave s i) later)
+        let inside : Kept = in_call layout kept (call_cells kept.top layout.base arg v m) in
+        below_then Never KeptLocation (λ o i o' i'. (o ≡ None) × (o' ≡ None) × CellsKept inside i) (LeftBack (S kept) label) (bind (inner (Procedure p)) (λ u. give None) (enter_frame kept.top layout.base arg v m) w) (bind (inner' p) (λ u. give None) (opened scope v) w) (λ value i later. Going value (leave_frame m i) later) (λ value i later. Going value (leave s i) later)
         (below_bind Never KeptLocation (H inside) (λ a i a' i'. CellsKept inside i) (λ o i o' i'. (o ≡ None) × (o' ≡ None) × CellsKept inside i) (inner (Procedure p)) (inner' p) (λ u. give None) (λ u. give None)
-        (calls_back inside.before inside.frame p) (λ u u' i i' x k. (None, i', (refl, refl, k), refl)) (λ u. grows_give {A = Option Signal} None) (open_frame kept.top layout.base arg v m) (opened scope v) w (entered scope layout ok kept.top v m kept refl q.1))
-        (λ o i o' i' x k. (o', s, none_left o (close_frame m i) o' s k.0 k.1 (came_back scope layout ok kept.top v m kept s i refl low q k.2), refl))
+        (calls_back inside.before inside.frame p) (λ u u' i i' x k. (None, i', (refl, refl, k), refl)) (λ u. grows_give {A = Option Signal} None) (enter_frame kept.top layout.base arg v m) (opened scope v) w (call_begins scope layout ok kept.top v m kept refl q.1))
+        (λ o i o' i' x k. (o', s, falls_through o (leave_frame m i) o' s k.0 k.1 (call_returns scope layout ok kept.top v m kept s i refl low q k.2), refl))
         (λ a' i x. begun_same x)
 
     after_argument : (p : ℕ) (o : Option ℕ) (v : ℕ) → BelowFrom Never KeptLocation (λ m s. StoredBack kept o m v s) (LeftBack (S kept) label) (next_or (run_code (Invoke p kept.top kept.top layout.base (layout.object scope.argument))) o) (invoke scope (inner' p) v)
     after_argument p (Some j) v m s w r = absurd (cc r.0)
-    after_argument p None v m s w r = subst (λ z. Below Never KeptLocation (LeftBack (S kept) label) z (invoke scope (inner' p) v s w)) (sym (load_then kept.top v m w (invoke_c kept.top layout.base (layout.object scope.argument) (inner (Procedure p))) r.1.0)) (called p v m s w r.1.1)
+    after_argument p None v m s w r = subst (λ z. Below Never KeptLocation (LeftBack (S kept) label) z (invoke scope (inner' p) v s w)) (sym (after_load kept.top v m w (invoke_c kept.top layout.base (layout.object scope.argument) (inner (Procedure p))) r.1.0)) (called p v m s w r.1.1)
 
     grows_invoke : (p v : ℕ) → Grows (invoke scope (inner' p) v)
     grows_invoke p v = grows_within (enter scope v) leave (bind (inner' p) (λ u. give None)) (grows_bind (inner' p) (λ u. give None) (g' p) (λ u. grows_give {A = Option Signal} None))
 
     call_back : (here : Location) (p : ℕ) (e : Expression) → knows scope e ≡ true → BelowFrom Never KeptLocation (H kept) (LeftBack (S kept) label) (code (Call here p e) kept.top label) (source (Call here p e))
     call_back here p e fine =
-        below_bind Never KeptLocation (H kept) (StoredBack kept) (LeftBack (S kept) label) (run_code (into layout.object here e kept.top)) (value by_name here e) (next_or (run_code (Invoke p kept.top kept.top layout.base (layout.object scope.argument)))) (invoke scope (inner' p))
+        below_bind Never KeptLocation (H kept) (StoredBack kept) (LeftBack (S kept) label) (run_code (evaluate layout.object here e kept.top)) (value by_name here e) (next_or (run_code (Invoke p kept.top kept.top layout.base (layout.object scope.argument)))) (invoke scope (inner' p))
         (value_back here e fine kept low) (after_argument p) (grows_invoke p)
 
   module _ (calls_back : (before : ℕ → Option ℕ) (frame p : ℕ) → BelowFrom Never KeptLocation (H (in_procedure layout before frame)) (λ a m a' s. CellsKept (in_procedure layout before frame) m) (inner (Procedure p)) (inner' p)) where

@@ -7,7 +7,7 @@ use Rattle.lf_base.proofs.Links.{near_further}
 use Rattle.link_toy.specs.Source.{Expression, Number, Variable, Sum, Less, Product, Statement, Skip, Sequence, Assign, While, Repeat, Exit, Call, Print, Scope, Program, IsFine, is_among, is_declared, knows, is_fine}
 use Rattle.link_toy.specs.Meaning.{largest_factor, run}
 use Rattle.link_toy.specs.Target.{run_c}
-use Rattle.link_toy.specs.Translation.{Layout, IsLayout, helper_depth, translated, start_of}
+use Rattle.link_toy.specs.Translation.{Layout, IsLayout, helper_depth, translated, initial_memory}
 use Rattle.link_toy.specs.Temporary.{through, widened, passed, IsNew}
 use Rattle.link_toy.proofs.Nearness.{near}
 use Rattle.link_toy.proofs.Temporaries.{near_passed}
@@ -58,5 +58,5 @@ module _ (t : ℕ) (scope : Scope) where
 pub passed_fine : (t : ℕ) (p : Program) → IsFine p → IsFine (passed t p)
 passed_fine t p fine = record { bodies = λ q. through_fine t p.scope (p.bodies q) (fine.bodies q); main = through_fine t p.scope p.main fine.main }
 
-pub both_links : (t : ℕ) (layout : Layout) (p : Program) → IsFine p → IsNew t p.scope → IsLayout (widened t p.scope) layout → IsNearBy Never largest_factor helper_depth (run p) (run_c (start_of layout) (translated layout (passed t p)))
-both_links t layout p fine new ok = near_further Never 0 0 largest_factor helper_depth (run p) (run (passed t p)) (run_c (start_of layout) (translated layout (passed t p))) (near_passed t p fine new) (near layout (passed t p) (passed_fine t p fine) ok)
+pub both_links : (t : ℕ) (layout : Layout) (p : Program) → IsFine p → IsNew t p.scope → IsLayout (widened t p.scope) layout → IsNearBy Never largest_factor helper_depth (run p) (run_c (initial_memory layout) (translated layout (passed t p)))
+both_links t layout p fine new ok = near_further Never 0 0 largest_factor helper_depth (run p) (run (passed t p)) (run_c (initial_memory layout) (translated layout (passed t p))) (near_passed t p fine new) (near layout (passed t p) (passed_fine t p fine) ok)

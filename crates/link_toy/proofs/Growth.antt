@@ -10,7 +10,7 @@ use Rattle.lf_base.proofs.Stretches.{grows_bind, grows_give, grows_look, grows_c
 use Rattle.lf_base.proofs.Counting.{grows_counted}
 use Rattle.link_toy.specs.Source.{Expression, Number, Variable, Sum, Less, Product, Statement, Skip, Sequence, Assign, While, Repeat, Exit, Call, Print, Scope}
 use Rattle.link_toy.specs.Meaning.{Store, Access, product, fetch, assign, value, test, exec, callee}
-use Rattle.link_toy.specs.Target.{CExpression, CStatement, Constant, Load, Add, Subtract, IsLess, Nothing, Then, Set, Forever, Labelled, Unless, Jump, Invoke, Write, Multiply, Memory, cell, load, c_value, add_once, is_left, overflow, multiply, unless, multiply_into, Callable, Procedure, Multiplier, no_value, exec_c, callee_c}
+use Rattle.link_toy.specs.Target.{CExpression, CStatement, Constant, Load, Add, Subtract, IsLess, Nothing, Then, Set, Forever, Labelled, Unless, Jump, Invoke, Write, Multiply, Memory, cell, load, c_value, add_once, is_counting, overflow, multiply, unless, multiply_into, Callable, Procedure, Multiplier, no_value, exec_c, callee_c}
 use Rattle.link_toy.proofs.Counted.{grows_cond, grows_landing}
 
 pub ruleset growing = (grows_bind, grows_give, grows_look, grows_change, grows_print, grows_complain, grows_given, grows_next, grows_within, grows_iterate, grows_counted, grows_cond, grows_landing)
@@ -60,12 +60,12 @@ grows_c_value (IsLess a b) = search (growing, grows_c_value a, grows_c_value b)
 pub grows_add_once : (r v : ℕ) → Grows (add_once r v)
 grows_add_once r v = search (growing, grows_load)
 
-pub grows_is_left : (r : ℕ) → Grows (is_left r)
-grows_is_left r = search (growing, grows_load)
+pub grows_is_counting : (r : ℕ) → Grows (is_counting r)
+grows_is_counting r = search (growing, grows_load)
 
 -- the helper's loop, and the load behind it
-pub grows_adding : (n r v : ℕ) → Grows (bind (iterate n (is_left r) (add_once r v)) (λ o. load r))
-grows_adding n r v = search (growing, grows_load, grows_is_left, grows_add_once)
+pub grows_adding : (n r v : ℕ) → Grows (bind (iterate n (is_counting r) (add_once r v)) (λ o. load r))
+grows_adding n r v = search (growing, grows_load, grows_is_counting, grows_add_once)
 
 pub grows_overflow : (text : List ℕ) → Grows (overflow {A = ℕ} text)
 grows_overflow text = grows_bind {B = ℕ} (complain text) (λ u. stop (trap_status IntegerOverflow)) (grows_complain text) (λ u. grows_stop Memory ℕ (trap_status IntegerOverflow))

@@ -11,9 +11,9 @@ use Rattle.lf_base.proofs.Monotone.{same_self, bind_no_shorter, iterate_no_short
 use Rattle.lf_base.proofs.Depths.{calls_grow, calls_no_shorter}
 use Rattle.link_toy.specs.Source.{Statement, Skip, Sequence, Assign, While, Repeat, Exit, Call, Print, Scope, Program}
 use Rattle.link_toy.specs.Meaning.{Store, Access, opened, exec, callee, whole, run_by}
-use Rattle.link_toy.specs.Target.{CStatement, Nothing, Then, Set, Forever, Labelled, Unless, Jump, Invoke, Write, Multiply, CProgram, Memory, load, is_left, add_once, multiply, multiply_into, Callable, Procedure, Multiplier, no_value, exec_c, callee_c, whole_c, run_c}
+use Rattle.link_toy.specs.Target.{CStatement, Nothing, Then, Set, Forever, Labelled, Unless, Jump, Invoke, Write, Multiply, CProgram, Memory, load, is_counting, add_once, multiply, multiply_into, Callable, Procedure, Multiplier, no_value, exec_c, callee_c, whole_c, run_c}
 use Rattle.link_toy.proofs.Counted.{cond_no_shorter, next_no_shorter, counted_no_shorter}
-use Rattle.link_toy.proofs.Growth.{growing, grows_test, grows_exec, callee_grows, grows_load, grows_is_left, grows_add_once, grows_multiply_into, grows_c, callee_c_grows}
+use Rattle.link_toy.proofs.Growth.{growing, grows_test, grows_exec, callee_grows, grows_load, grows_is_counting, grows_add_once, grows_multiply_into, grows_c, callee_c_grows}
 
 ruleset larger = (same_self, bind_no_shorter, iterate_no_shorter, within_no_shorter, cond_no_shorter, next_no_shorter, counted_no_shorter)
 
@@ -36,8 +36,8 @@ module _ (n n' : ℕ) (le : n ≤ n') where
     pub all_longer : (bodies : ℕ → Statement) (d d' : ℕ) → d ≤ d' → (st : Statement) → NoShorter (exec access scope n (calls (callee access scope n bodies) d) st) (exec access scope n' (calls (callee access scope n' bodies) d') st)
     all_longer bodies d d' ld = exec_no_shorter (calls (callee access scope n bodies) d) (calls (callee access scope n' bodies) d') (calls_no_shorter (callee access scope n bodies) (callee access scope n' bodies) (callee_longer bodies) (callee_grows access scope n' bodies) d d' ld) (calls_grow (callee access scope n' bodies) (callee_grows access scope n' bodies) d')
 
-  adding_no_shorter : (r v : ℕ) → NoShorter (bind (iterate n (is_left r) (add_once r v)) (λ o. load r)) (bind (iterate n' (is_left r) (add_once r v)) (λ o. load r))
-  adding_no_shorter r v = search (larger, growing, grows_load, grows_is_left, grows_add_once)
+  adding_no_shorter : (r v : ℕ) → NoShorter (bind (iterate n (is_counting r) (add_once r v)) (λ o. load r)) (bind (iterate n' (is_counting r) (add_once r v)) (λ o. load r))
+  adding_no_shorter r v = search (larger, growing, grows_load, grows_is_counting, grows_add_once)
 
   pub multiply_no_shorter : (r u v : ℕ) (text : List ℕ) → NoShorter (multiply n r u v text) (multiply n' r u v text)
   multiply_no_shorter r u v text = search (larger, growing, adding_no_shorter)

@@ -7,6 +7,7 @@ pub mod Growth
 pub mod Helper
 pub mod Instance
 pub mod Larger
+pub mod Layouts
 pub mod Matchings
 pub mod Multiplying
 pub mod Names

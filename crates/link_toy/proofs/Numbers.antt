@@ -11,9 +11,9 @@ use Rattle.lf_base.specs.Loops.{landing, counted}
 use Rattle.lf_base.specs.Equal.{World, Equal, Always, Anyhow}
 use Rattle.lf_base.proofs.Equals.{bind_equal, give_equal, print_equal, trap_equal, next_equal, iterate_equal, within_equal, sound_outcome}
 use Rattle.lf_base.proofs.Nearby.{near_of_equal}
-use Rattle.link_toy.specs.Source.{Expression, Number, Variable, Sum, Less, Product, Statement, Skip, Sequence, Assign, While, Repeat, Exit, Call, Print, Scope, Program, IsFine, is_declared, knows, is_fine}
+use Rattle.link_toy.specs.Source.{Expression, Number, Variable, Sum, Less, Product, Statement, Skip, Sequence, Assign, While, Repeat, Exit, Call, Print, Scope, Program, IsFine, is_declared, knows, is_fine, declared, number_of}
 use Rattle.link_toy.specs.Meaning.{Store, Signal, Leave, leaves, by_name, find, put, opened, enter, leave, less, is_true, largest_factor, line_of, product, fetch, assign, value, test, invoke, exec, callee, success, whole, run}
-use Rattle.link_toy.specs.Numbered.{names_of, declared, by_number, put_number, number_of, resolve_expression, resolve, resolved, run_numbered}
+use Rattle.link_toy.specs.Numbered.{names_of, by_number, put_number, resolve_expression, resolve, resolved, run_numbered}
 use Rattle.link_toy.proofs.Equalities.{step_equal, look_agrees, change_agrees, given_equal, cond_equal, landing_equal, counted_equal, calls_equal}
 use Rattle.link_toy.proofs.Larger.{source_larger}
 use Rattle.link_toy.proofs.Names.{Declares, names_put, names_opened, found, find_by_number, put_by_number}

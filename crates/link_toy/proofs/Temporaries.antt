@@ -43,28 +43,28 @@ module _ (scope : Scope) (t : ℕ) (new : IsNew t scope) where
   Matches act act' = Match W Q Always Anyhow act act'
 
   apart_new : (x : ℕ) → is_declared scope x ≡ true → eqb x t ≡ false
-  apart_new x d = by_name (eqb x t) refl
+  apart_new x d = by_test (eqb x t) refl
     where
-      by_name : (b : Bool) → eqb x t ≡ b → b ≡ false
-      by_name false is = refl
-      by_name true is = absurd (let f : true ≡ false = sym d ∙ ap (is_declared scope) (eqb-true x t is) ∙ new in cc)
+      by_test : (b : Bool) → eqb x t ≡ b → b ≡ false
+      by_test false is = refl
+      by_test true is = absurd (let f : true ≡ false = sym d ∙ ap (is_declared scope) (eqb-true x t is) ∙ new in cc)
 
   new_apart : (x : ℕ) → is_declared scope x ≡ true → eqb t x ≡ false
-  new_apart x d = by_name (eqb t x) refl
+  new_apart x d = by_test (eqb t x) refl
     where
-      by_name : (b : Bool) → eqb t x ≡ b → b ≡ false
-      by_name false is = refl
-      by_name true is = absurd (let f : true ≡ false = sym d ∙ ap (is_declared scope) (sym (eqb-true t x is)) ∙ new in cc)
+      by_test : (b : Bool) → eqb t x ≡ b → b ≡ false
+      by_test false is = refl
+      by_test true is = absurd (let f : true ≡ false = sym d ∙ ap (is_declared scope) (sym (eqb-true t x is)) ∙ new in cc)
 
   beside_new : (v : ℕ) (s s' : Store) → Q s s' → Q s (put t v s')
   beside_new v s s' q = ((λ x d. put_apart t v x s' (apart_new x d) ∙ q.0 x d), v, put_here t v q.1 s' q.2)
 
   beside_put : (x v : ℕ) → is_declared scope x ≡ true → (s s' : Store) (u : ℕ) → find x s ≡ Some u → Q s s' → Q (put x v s) (put x v s')
-  beside_put x v dx s s' u e q = ((λ y dy. by_name y dy (eqb y x) refl), q.1, put_apart x v t s' (new_apart x dx) ∙ q.2)
+  beside_put x v dx s s' u e q = ((λ y dy. by_test y dy (eqb y x) refl), q.1, put_apart x v t s' (new_apart x dx) ∙ q.2)
     where
-      by_name : (y : ℕ) → is_declared scope y ≡ true → (b : Bool) → eqb y x ≡ b → find y (put x v s') ≡ find y (put x v s)
-      by_name y dy true is = ap (λ z. find z (put x v s')) (eqb-true y x is) ∙ put_here x v u s' (q.0 x dx ∙ e) ∙ sym (put_here x v u s e) ∙ ap (λ z. find z (put x v s)) (sym (eqb-true y x is))
-      by_name y dy false is = put_apart x v y s' is ∙ q.0 y dy ∙ sym (put_apart x v y s is)
+      by_test : (y : ℕ) → is_declared scope y ≡ true → (b : Bool) → eqb y x ≡ b → find y (put x v s') ≡ find y (put x v s)
+      by_test y dy true is = ap (λ z. find z (put x v s')) (eqb-true y x is) ∙ put_here x v u s' (q.0 x dx ∙ e) ∙ sym (put_here x v u s e) ∙ ap (λ z. find z (put x v s)) (sym (eqb-true y x is))
+      by_test y dy false is = put_apart x v y s' is ∙ q.0 y dy ∙ sym (put_apart x v y s is)
 
   beside_opened : (v : ℕ) → Q (opened scope v) (opened (widened t scope) v)
   beside_opened v = (

@@ -1,8 +1,8 @@
 -- Two programs in the layout that the laws of single programs speak of.
-use Rattle.std.specs.Prelude.{ℕ, cond, eqb, [], ◌∷◌, codes}
+use Rattle.std.specs.Prelude.{ℕ, [], ◌∷◌, codes}
 use Rattle.lf_base.specs.Outcome.{Location}
 use Rattle.link_toy.specs.Source.{Number, Variable, Sum, Less, Product, Statement, Skip, Sequence, Assign, While, Repeat, Exit, Call, Print, Scope, Program}
-use Rattle.link_toy.specs.Translation.{Layout}
+use Rattle.link_toy.specs.Translation.{Layout, layout_of}
 
 abbrev pub depth : ℕ
 depth = 4
@@ -13,9 +13,12 @@ total = 9
 abbrev pub scope : Scope
 scope = record { argument = depth; others = total ∷ [] }
 
--- the argument stands in object 0, the other variable in object 1
+-- a name that is not declared
+abbrev pub spare : ℕ
+spare = 5
+
 abbrev pub layout : Layout
-layout = record { object = λ x. cond (eqb x depth) 0 1; base = 2 }
+layout = layout_of scope
 
 abbrev pub at_line : ℕ → Location
 at_line line = record { source = codes "toy"; line = line }
@@ -27,8 +30,9 @@ descent =
     (Sequence (While (at_line 3) (Less (Variable depth) (Number 2)) (Sequence (Call (at_line 4) 0 (Sum (Variable depth) (Number 1))) Exit))
     (Repeat (at_line 7) (Number 2) (Print (at_line 8) (Variable total))))
 
+-- repeat 2 { call p(1) }
 abbrev pub descends : Program
-descends = record { scope = scope; bodies = λ p. descent; main = Call (at_line 10) 0 (Number 0) }
+descends = record { scope = scope; bodies = λ p. descent; main = Repeat (at_line 10) (Number 2) (Call (at_line 11) 0 (Number 1)) }
 
 -- print 1; print 65 * 2
 abbrev pub overflows : Program

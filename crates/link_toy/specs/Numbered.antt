@@ -1,16 +1,13 @@
 -- The second meaning of the source: names are resolved to the numbers of slots before the program runs.
-use Rattle.std.specs.Prelude.{ℕ, zero, suc, cond, eqb, List, [], ◌∷◌, Option, Some, None}
+use Rattle.std.specs.Prelude.{ℕ, zero, suc, List, [], ◌∷◌, Option, Some, None}
 use Rattle.lf_base.specs.Outcome.{Outcome}
-use Rattle.link_toy.specs.Source.{Expression, Number, Variable, Sum, Less, Product, Statement, Skip, Sequence, Assign, While, Repeat, Exit, Call, Print, Scope, Program}
+use Rattle.link_toy.specs.Source.{number_of, Expression, Number, Variable, Sum, Less, Product, Statement, Skip, Sequence, Assign, While, Repeat, Exit, Call, Print, Scope, Program}
 use Rattle.link_toy.specs.Meaning.{slot, Store, Access, run_by}
 
 -- the names of the slots
 abbrev pub names_of : Store → List ℕ
 names_of [] = []
 names_of (s ∷ store) = s.name ∷ names_of store
-
-abbrev pub declared : Scope → List ℕ
-declared scope = scope.argument ∷ scope.others
 
 -- the slot with this number
 abbrev pub find_number : ℕ → Store → Option ℕ
@@ -25,14 +22,6 @@ put_number (suc i) v (s ∷ store) = s ∷ put_number i v store
 
 abbrev pub by_number : Access
 by_number = record { read = find_number; write = put_number }
-
--- where a name stands; the number of none where it does not
-abbrev pub number_in : List ℕ → ℕ → ℕ
-number_in [] x = zero
-number_in (y ∷ names) x = cond (eqb x y) zero (suc (number_in names x))
-
-abbrev pub number_of : Scope → ℕ → ℕ
-number_of scope = number_in (declared scope)
 
 abbrev pub resolve_expression : Scope → Expression → Expression
 resolve_expression scope (Number v) = Number v

@@ -8,8 +8,8 @@ use Rattle.link_toy.specs.Target.{Memory, cell}
 use Rattle.link_toy.specs.Translation.{Layout}
 
 -- each declared variable has a value, which stands in its object
-abbrev pub Holds : Scope → Layout → Store → Memory → Type 0
-Holds scope layout s m = (x : ℕ) → is_declared scope x ≡ true → (v : ℕ) × (find x s ≡ Some v) × (cell (layout.object x) m ≡ Some v)
+abbrev pub ObjectsHold : Scope → Layout → Store → Memory → Type 0
+ObjectsHold scope layout s m = (x : ℕ) → is_declared scope x ≡ true → (v : ℕ) × (find x s ≡ Some v) × (cell (layout.object x) m ≡ Some v)
 
 -- What a statement keeps: the frame with the cells below it as they were at the call, and the counts of the loops
 -- around it, which are the temporaries from `base` up to `top`.
@@ -27,7 +27,7 @@ abbrev pub Counts : Layout → Kept → Memory → Type 0
 Counts layout kept m = (t : ℕ) → layout.base ≤ t → t < kept.top → cell t m ≡ kept.counts t
 
 abbrev pub Stands : Scope → Layout → Kept → Store → Memory → Type 0
-Stands scope layout kept s m = Holds scope layout s m × (m.frame ≡ kept.frame) × CellsKept kept m × Counts layout kept m
+Stands scope layout kept s m = ObjectsHold scope layout s m × (m.frame ≡ kept.frame) × CellsKept kept m × Counts layout kept m
 
 -- in a loop more, which has this count
 abbrev pub with_count : Kept → ℕ → Kept
@@ -50,13 +50,13 @@ abbrev pub Valued : ℕ → Store → Memory → Link Store ℕ Memory (Option �
 Valued t s m v s' o m' = (o ≡ None) × (cell t m' ≡ Some v) × (s' ≡ s) × Unchanged t m m'
 
 -- besides, temporary t has this value
-abbrev pub And : ℕ → ℕ → (Store → Memory → Type 0) → Store → Memory → Type 0
-And t v Q s m = (cell t m ≡ Some v) × Q s m
+abbrev pub Besides : ℕ → ℕ → (Store → Memory → Type 0) → Store → Memory → Type 0
+Besides t v Q s m = (cell t m ≡ Some v) × Q s m
 
 -- a value of the source was stored in temporary t
-abbrev pub Stored : ℕ → (Store → Memory → Type 0) → Link Store ℕ Memory (Option ℕ)
-Stored t Q v s o m = (o ≡ None) × And t v Q s m
+abbrev pub InTemporary : ℕ → (Store → Memory → Type 0) → Link Store ℕ Memory (Option ℕ)
+InTemporary t Q v s o m = (o ≡ None) × Besides t v Q s m
 
 -- an exit of the source is a jump to the label
-abbrev pub Jumps : (Store → Memory → Type 0) → ℕ → Link Store Signal Memory ℕ
-Jumps Q label b s j m = (j ≡ label) × Q s m
+abbrev pub ExitJumps : (Store → Memory → Type 0) → ℕ → Link Store Signal Memory ℕ
+ExitJumps Q label b s j m = (j ≡ label) × Q s m

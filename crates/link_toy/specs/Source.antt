@@ -1,6 +1,6 @@
 -- A small source language: named variables, a loop that tests first and is left by exit, a loop whose count is
 -- known, and procedures with an argument and variables of their own, which may call themselves.
-use Rattle.std.specs.Prelude.{ℕ, Bool, true, eqb, List, [], ◌∷◌, ◌||◌, ◌&&◌, ◌≡◌}
+use Rattle.std.specs.Prelude.{ℕ, zero, suc, cond, Bool, true, eqb, List, [], ◌∷◌, ◌||◌, ◌&&◌, ◌≡◌}
 use Rattle.lf_base.specs.Outcome.{Location}
 
 -- a variable is told by its name, of which no more is known than which one it is
@@ -33,12 +33,23 @@ pub record Program : Type 0 where
   pub bodies : ℕ → Statement
   pub main : Statement
 
+abbrev pub declared : Scope → List ℕ
+declared scope = scope.argument ∷ scope.others
+
 abbrev pub is_among : ℕ → List ℕ → Bool
 is_among x [] = Bool.false
 is_among x (y ∷ names) = eqb x y || is_among x names
 
 abbrev pub is_declared : Scope → ℕ → Bool
-is_declared scope x = is_among x (scope.argument ∷ scope.others)
+is_declared scope x = is_among x (declared scope)
+
+-- where a name stands; the number of none where it does not
+abbrev pub number_in : List ℕ → ℕ → ℕ
+number_in [] x = zero
+number_in (y ∷ names) x = cond (eqb x y) zero (suc (number_in names x))
+
+abbrev pub number_of : Scope → ℕ → ℕ
+number_of scope = number_in (declared scope)
 
 -- each variable of the expression is declared
 abbrev pub knows : Scope → Expression → Bool

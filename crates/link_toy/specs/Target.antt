@@ -56,15 +56,15 @@ abbrev pub set_cell : ℕ → ℕ → Memory → Memory
 set_cell o v m = record { cells = update eqb m.cells (m.frame + o) (Some v); frame = m.frame }
 
 -- the cells at a call's begin: the caller's are kept, the argument is set, the call's other own objects are zero
-abbrev pub pushed : (kept own argument v : ℕ) → Memory → ℕ → Option ℕ
-pushed kept own argument v m a =
+abbrev pub call_cells : (kept own argument v : ℕ) → Memory → ℕ → Option ℕ
+call_cells kept own argument v m a =
     cond (ltb a (m.frame + kept)) (m.cells a) (cond (eqb a (m.frame + kept + argument)) (Some v) (cond (ltb a (m.frame + kept + own)) (Some 0) None))
 
-abbrev pub open_frame : (kept own argument v : ℕ) → Memory → Memory
-open_frame kept own argument v m = record { cells = pushed kept own argument v m; frame = m.frame + kept }
+abbrev pub enter_frame : (kept own argument v : ℕ) → Memory → Memory
+enter_frame kept own argument v m = record { cells = call_cells kept own argument v m; frame = m.frame + kept }
 
-abbrev pub close_frame : Memory → Memory → Memory
-close_frame m inner = record { cells = inner.cells; frame = m.frame }
+abbrev pub leave_frame : Memory → Memory → Memory
+leave_frame m inner = record { cells = inner.cells; frame = m.frame }
 
 -- an object that is not set has no value: to read it is undefined
 abbrev pub load : ℕ → Act Memory ℕ
@@ -88,11 +88,11 @@ one_less (suc i) = i
 abbrev pub add_once : ℕ → ℕ → Act Memory (Option (Unit {0}))
 add_once r v = bind (load r) (λ sum. bind (change (set_cell r (sum + v))) (λ u. bind (load (suc r)) (λ i. bind (change (set_cell (suc r) (one_less i))) (λ u. give None))))
 
-abbrev pub is_left : ℕ → Act Memory Bool
-is_left r = bind (load (suc r)) (λ i. give (is_true i))
+abbrev pub is_counting : ℕ → Act Memory Bool
+is_counting r = bind (load (suc r)) (λ i. give (is_true i))
 
 abbrev pub added_up : (n r u v : ℕ) → Act Memory ℕ
-added_up n r u v = bind (change (λ m. set_cell (suc r) u (set_cell r 0 m))) (λ x. bind (iterate n (is_left r) (add_once r v)) (λ o. load r))
+added_up n r u v = bind (change (λ m. set_cell (suc r) u (set_cell r 0 m))) (λ x. bind (iterate n (is_counting r) (add_once r v)) (λ o. load r))
 
 -- the text to the error output, and the end with the trap's status: no location is told
 abbrev pub overflow : {A : Type 0} → List ℕ → Act Memory A
@@ -107,7 +107,7 @@ unless label (suc v) = give None
 
 -- a call of a procedure with this argument
 abbrev pub invoke_c : (kept own argument : ℕ) → Act Memory ℕ → ℕ → Act Memory (Option ℕ)
-invoke_c kept own argument callee v = within (open_frame kept own argument v) close_frame (bind callee (λ u. give None))
+invoke_c kept own argument callee v = within (enter_frame kept own argument v) leave_frame (bind callee (λ u. give None))
 
 -- the helper works in the objects behind o
 abbrev pub multiply_into : (Callable → Act Memory ℕ) → ℕ → List ℕ → ℕ → ℕ → Act Memory (Option ℕ)

@@ -8,20 +8,20 @@ ghost use Rattle.lf_base.specs.Near.{IsNearBy, IsMonotone};
 ghost use Rattle.lf_base.specs.Acts.{Going};
 ghost use Rattle.lf_base.specs.Order.{BelowFrom};
 ghost use Rattle.lf_base.specs.Depth.{calls};
-ghost use Rattle.link_toy.specs.Source.{Statement, Program, IsFine, is_fine};
+ghost use Rattle.link_toy.specs.Source.{Scope, Statement, Program, IsFine, is_fine, declared};
 ghost use Rattle.link_toy.specs.Meaning.{Store, by_name, largest_factor, product, exec, callee, success, run};
 ghost use Rattle.link_toy.specs.Target.{CStatement, CProgram, Memory, Multiplier, callee_c, run_c};
-ghost use Rattle.link_toy.specs.Translation.{Layout, IsLayout, helper_depth, translated, start_of};
+ghost use Rattle.link_toy.specs.Translation.{Layout, IsLayout, layout_of, helper_depth, translated, initial_memory};
 ghost use Rattle.link_toy.specs.Relation.{Unchanged};
-ghost use Rattle.link_toy.specs.Numbered.{names_of, declared, by_number, resolve, resolved, run_numbered};
+ghost use Rattle.link_toy.specs.Numbered.{names_of, by_number, resolve, resolved, run_numbered};
 ghost use Rattle.link_toy.specs.Temporary.{widened, passed, IsNew};
-ghost use Rattle.link_toy.specs.Example.{scope, layout, total, at_line, descends, overflows};
+ghost use Rattle.link_toy.specs.Example.{spare, layout, at_line, descends, overflows};
 
 /// Every program whose variables are declared is near its translation, in any layout of its variables: within stated
 /// bounds each ends as the other does, a location that the target tells is the source's, and neither is ever without
 /// a rule.
 pub fn both_ways()
-    ensures { (layout : Layout) (p : Program) → IsFine p → IsLayout p.scope layout → IsNearBy Never largest_factor helper_depth (run p) (run_c (start_of layout) (translated layout p)) }
+    ensures { (layout : Layout) (p : Program) → IsFine p → IsLayout p.scope layout → IsNearBy Never largest_factor helper_depth (run p) (run_c (initial_memory layout) (translated layout p)) }
 {}
 
 /// Larger bounds keep an end and never shorten what is written, in either language and for every program.
@@ -54,29 +54,32 @@ pub fn assignments_go_through()
 
 /// The pass and the translation behind it: the bounds of links add up.
 pub fn links_add_up()
-    ensures { (t : ℕ) (layout : Layout) (p : Program) → IsFine p → IsNew t p.scope → IsLayout (widened t p.scope) layout → IsNearBy Never largest_factor helper_depth (run p) (run_c (start_of layout) (translated layout (passed t p))) }
+    ensures { (t : ℕ) (layout : Layout) (p : Program) → IsFine p → IsNew t p.scope → IsLayout (widened t p.scope) layout → IsNearBy Never largest_factor helper_depth (run p) (run_c (initial_memory layout) (translated layout (passed t p))) }
 {}
 
 /// The premises of the laws have a model.
 pub fn premises_hold()
-    ensures layout { IsLayout scope layout }
-    ensures fine { IsFine descends }
-    ensures new { (t : ℕ) × IsNew t descends.scope }
+    /// Whatever is declared has a layout.
+    ensures layout { (scope : Scope) → IsLayout scope (layout_of scope) }
+    ensures descends { IsFine descends }
+    ensures overflows { IsFine overflows }
+    ensures new { IsNew spare descends.scope }
 {}
 
-/// A program with both loops, a procedure that calls itself, and products: both meanings compute it.
+/// A program with both loops, a call in a loop, a procedure that calls itself, and products: all meanings compute it.
+/// The target needs the turn in which a loop is left, and a call more for its helper.
 pub fn descends_runs()
-    ensures source { run descends 3 3 ≡ Ended (written (codes "5\n5\n2\n2\n1\n1\n") []) success None }
-    ensures target { run_c (start_of layout) (translated layout descends) 3 4 ≡ Ended (written (codes "5\n5\n2\n2\n1\n1\n") []) success None }
-    ensures numbered { run_numbered descends 3 3 ≡ Ended (written (codes "5\n5\n2\n2\n1\n1\n") []) success None }
-    ensures passed { run (passed 5 descends) 3 3 ≡ Ended (written (codes "5\n5\n2\n2\n1\n1\n") []) success None }
-    /// Calls to a depth of 2 are not enough.
-    ensures shallow { run descends 3 2 ≡ Cut (written [] []) }
+    ensures source { run descends 2 2 ≡ Ended (written (codes "5\n5\n2\n2\n5\n5\n2\n2\n") []) success None }
+    ensures target { run_c (initial_memory layout) (translated layout descends) 3 3 ≡ Ended (written (codes "5\n5\n2\n2\n5\n5\n2\n2\n") []) success None }
+    ensures numbered { run_numbered descends 2 2 ≡ Ended (written (codes "5\n5\n2\n2\n5\n5\n2\n2\n") []) success None }
+    ensures passed { run (passed spare descends) 2 2 ≡ Ended (written (codes "5\n5\n2\n2\n5\n5\n2\n2\n") []) success None }
+    /// Calls to a depth of 1 are not enough.
+    ensures shallow { run descends 2 1 ≡ Cut (written [] []) }
 {}
 
 /// A program that ends by a trap: both write the same text and end with the same status, and the source alone tells
 /// the location.
 pub fn overflows_traps()
     ensures source { run overflows 0 0 ≡ Ended (written (codes "1\n") (codes "lf: trap IntegerOverflow at toy:2\n")) (trap_status IntegerOverflow) (Some (at_line 2)) }
-    ensures target { run_c (start_of layout) (translated layout overflows) 0 1 ≡ Ended (written (codes "1\n") (codes "lf: trap IntegerOverflow at toy:2\n")) (trap_status IntegerOverflow) None }
+    ensures target { run_c (initial_memory layout) (translated layout overflows) 0 1 ≡ Ended (written (codes "1\n") (codes "lf: trap IntegerOverflow at toy:2\n")) (trap_status IntegerOverflow) None }
 {}

@@ -5,11 +5,22 @@ use Rattle.lf_base.specs.Acts.{Act, give, next_or, iterate}
 use Rattle.lf_base.specs.Order.{Grows, Link, BelowFrom}
 use Rattle.lf_base.specs.Loops.{counted, Exited, Entered}
 use Rattle.lf_base.proofs.Stretches.{Left, grows_bind, grows_give, grows_cut, grows_next, grows_iterate, below_bind}
+use Rattle.lf_base.specs.Monotone.{NoShorter}
+use Rattle.lf_base.proofs.Monotone.{same_self, bind_no_shorter, next_no_shorter}
 
 pub grows_counted : {S B : Type 0} (count n : ℕ) (body : Act S (Option B)) → Grows body → Grows (counted count n body)
 grows_counted {S} {B} zero n body g = grows_give {A = Option B} None
 grows_counted {S} {B} (suc count) zero body g = grows_cut S (Option B)
 grows_counted (suc count) (suc n) body g = grows_bind body (next_or (counted count n body)) g (grows_next (counted count n body) (grows_counted count n body g))
+
+pub counted_no_shorter : {S B : Type 0} (count n n' : ℕ) → n ≤ n' → (body body' : Act S (Option B)) → NoShorter body body' → Grows body' → NoShorter (counted count n body) (counted count n' body')
+counted_no_shorter {S} {B} zero n n' le body body' h g = same_self (give {S = S} {A = Option B} None)
+counted_no_shorter (suc count) zero n' le body body' h g = λ s w. grows_counted (suc count) n' body' g s w
+counted_no_shorter (suc count) (suc n) zero le body body' h g = absurd (omega arith)
+counted_no_shorter (suc count) (suc n) (suc n') le body body' h g =
+    bind_no_shorter body body' (next_or (counted count n body)) (next_or (counted count n' body')) h
+    (next_no_shorter (counted count n body) (counted count n' body') (counted_no_shorter count n n' (omega arith) body body' h g))
+    (grows_next (counted count n' body') (grows_counted count n' body' g))
 
 -- Q says of two states how many turns are left. From Q (suc count) a turn goes to Q count; from Q 0 the loop with
 -- its test inside is left.

@@ -1,9 +1,11 @@
 -- Acts made of equal acts are equal: one lemma a combinator.
-use Rattle.std.proofs.Common.{◌≡◌, ℕ, zero, suc, Bool, true, false, List, Option, Some, None, refl, sym, ap, subst, ◌∙◌}
+use Rattle.std.proofs.Common.{◌≡◌, ℕ, zero, suc, Bool, true, false, List, Option, Some, None, refl, sym, ap, subst, ◌∙◌, cond}
 use Rattle.lf_base.specs.Outcome.{Location, Written, Fault, Ended, Cut, Wrong}
-use Rattle.lf_base.specs.Acts.{Stretch, Going, Stopped, Act, then_do, bind, give, look, change, print, complain, stop, trap, cut, next_or, within, turn, iterate, outcome_of}
+use Rattle.lf_base.specs.Acts.{Stretch, Going, Stopped, Act, then_do, bind, give, look, change, print, complain, stop, trap, cut, next_or, within, turn, iterate, outcome_of, given}
 use Rattle.lf_base.specs.declared.trap.Trap.{Trap}
 use Rattle.lf_base.specs.Equal.{World, Sound, EqualAt, Equal, Always, Anyhow}
+use Rattle.lf_base.specs.Loops.{landing, counted}
+use Rattle.lf_base.specs.Depth.{Callee, calls}
 
 pub sound_earlier : {S A : Type 0} (W : World S) (s t : S) (V : A → S → Type 0) (x : Stretch S A) → W.later s t → Sound W t V x → Sound W s V x
 sound_earlier W s t V (Going a u v) l h = (W.more s t u l h.0, h.1)
@@ -51,11 +53,12 @@ module _ {S : Type 0} (W : World S) (P : S → Type 0) where
   pub give_equal : {A : Type 0} (V : A → S → Type 0) (a : A) → ((s : S) → W.holds s → P s → V a s) → Equal W P V (give a) (give a)
   give_equal V a h s i p w = ((W.same s, h s i p), refl)
 
-  pub look_equal : {A : Type 0} (V : A → S → Type 0) (f : S → A) → ((s : S) → W.holds s → P s → V (f s) s) → Equal W P V (look f) (look f)
-  look_equal V f h s i p w = ((W.same s, h s i p), refl)
+  -- looked at, or changed, in two ways that agree where the state holds
+  pub look_equal : {A : Type 0} (V : A → S → Type 0) (f f' : S → A) → ((s : S) → W.holds s → P s → V (f s) s) → ((s : S) → W.holds s → P s → f' s ≡ f s) → Equal W P V (look f) (look f')
+  look_equal V f f' h e s i p w = ((W.same s, h s i p), ap (λ a. Going a s w) (e s i p))
 
-  pub change_equal : (V : Unit {0} → S → Type 0) (f : S → S) → ((s : S) → W.holds s → P s → W.later s (f s) × V tt (f s)) → Equal W P V (change f) (change f)
-  change_equal V f h s i p w = (h s i p, refl)
+  pub change_equal : (V : Unit {0} → S → Type 0) (f f' : S → S) → ((s : S) → W.holds s → P s → W.later s (f s) × V tt (f s)) → ((s : S) → W.holds s → P s → f' s ≡ f s) → Equal W P V (change f) (change f')
+  change_equal V f f' h e s i p w = (h s i p, ap (λ t. Going (tt {0}) t w) (e s i p))
 
   pub print_equal : (bytes : List ℕ) → Equal W P Anyhow (print bytes) (print bytes)
   print_equal bytes s i p w = ((W.same s, tt), refl)
@@ -72,6 +75,14 @@ module _ {S : Type 0} (W : World S) (P : S → Type 0) where
   pub cut_equal : {A : Type 0} (V : A → S → Type 0) → Equal W P V cut cut
   cut_equal V s i p w = (tt, refl)
 
+  -- there is a value
+  pub given_equal : {A : Type 0} (V : A → S → Type 0) (fault : Fault) (o : Option A) → ((s : S) → W.holds s → P s → (v : A) × (o ≡ Some v) × V v s) → Equal W P V (given fault o) (given fault o)
+  given_equal V fault o h s i p w = let x = h s i p in subst (λ o. EqualAt W s V (given fault o s w) (given fault o s w)) (sym x.1) ((W.same s, x.2), refl)
+
+  pub cond_equal : {A : Type 0} (V : A → S → Type 0) (b : Bool) (x x' y y' : Act S A) → Equal W P V x x' → Equal W P V y y' → Equal W P V (cond b x y) (cond b x' y')
+  cond_equal V true x x' y y' h k = h
+  cond_equal V false x x' y y' h k = k
+
   -- in front of what holds anyway
   pub equal_always : {A : Type 0} (V : A → S → Type 0) (act act' : Act S A) → Equal W Always V act act' → Equal W P V act act'
   equal_always V act act' h s i p w = h s i tt w
@@ -80,9 +91,17 @@ module _ {S : Type 0} (W : World S) (P : S → Type 0) where
   next_equal more more' h None = equal_always Anyhow more more' h
   next_equal more more' h (Some b) = give_equal Anyhow (Some b) (λ s i p. tt)
 
+  pub landing_equal : {B : Type 0} (lands : B → Bool) (o : Option B) → Equal W P Anyhow (landing lands o) (landing lands o)
+  landing_equal {B} lands None = give_equal {A = Option B} Anyhow None (λ s i p. tt)
+  landing_equal {B} lands (Some b) = cond_equal {A = Option B} Anyhow (lands b) (give None) (give None) (give (Some b)) (give (Some b)) (give_equal {A = Option B} Anyhow None (λ s i p. tt)) (give_equal Anyhow (Some b) (λ s i p. tt))
+
 -- with more known before, and less said after
 pub equal_weaker : {S A : Type 0} (W : World S) (P Q : S → Type 0) (V U : A → S → Type 0) (act act' : Act S A) → ((s : S) → W.holds s → Q s → P s) → ((s : S) → W.holds s → Q s → (a : A) (t : S) → W.later s t → V a t → U a t) → Equal W P V act act' → Equal W Q U act act'
 equal_weaker W P Q V U act act' into out h s i q w = let r = h s i (into s i q) w in (sound_weaker W s V U (act s w) (out s i q) r.0, r.1)
+
+-- one act behind another, where nothing is said between them
+pub step_equal : {S A B : Type 0} (W : World S) (act act' : Act S A) (go go' : A → Act S B) → Equal W Always Anyhow act act' → ((a : A) → Equal W Always Anyhow (go a) (go' a)) → Equal W Always Anyhow (bind act go) (bind act' go')
+step_equal W act act' go go' h k = bind_equal W Always Anyhow Anyhow act act' go go' h (λ a s i p. equal_always W (λ t. W.later s t × Unit {0}) Anyhow (go a) (go' a) (k a))
 
 turn_equal : {S B : Type 0} (W : World S) (P : S → Type 0) (body body' more more' : Act S (Option B)) → Equal W Always Anyhow body body' → Equal W Always Anyhow more more' → (t : Bool) → Equal W P Anyhow (turn body more t) (turn body' more' t)
 turn_equal W P body body' more more' h k true = bind_equal W P Anyhow Anyhow body body' (next_or more) (next_or more') (equal_always W P Anyhow body body' h) (λ o s i p. next_equal W (λ t. W.later s t × Unit {0}) more more' k o)
@@ -91,6 +110,16 @@ turn_equal {S} {B} W P body body' more more' h k false = give_equal W P {A = Opt
 pub iterate_equal : {S B : Type 0} (W : World S) (n : ℕ) (test test' : Act S Bool) (body body' : Act S (Option B)) → Equal W Always Anyhow test test' → Equal W Always Anyhow body body' → Equal W Always Anyhow (iterate n test body) (iterate n test' body')
 iterate_equal {S} {B} W zero test test' body body' h k = bind_equal W Always Anyhow Anyhow test test' (turn cut cut) (turn cut cut) h (λ t s i p. turn_equal {B = B} W (λ t. W.later s t × Unit {0}) cut cut cut cut (cut_equal W Always Anyhow) (cut_equal W Always Anyhow) t)
 iterate_equal W (suc n) test test' body body' h k = bind_equal W Always Anyhow Anyhow test test' (turn body (iterate n test body)) (turn body' (iterate n test' body')) h (λ t s i p. turn_equal W (λ t. W.later s t × Unit {0}) body body' (iterate n test body) (iterate n test' body') k (iterate_equal W n test test' body body' h k) t)
+
+pub counted_equal : {S B : Type 0} (W : World S) (count n : ℕ) (body body' : Act S (Option B)) → Equal W Always Anyhow body body' → Equal W Always Anyhow (counted count n body) (counted count n body')
+counted_equal {S} {B} W zero n body body' h = give_equal W Always {A = Option B} Anyhow None (λ s i p. tt)
+counted_equal {S} {B} W (suc count) zero body body' h = cut_equal W Always {A = Option B} Anyhow
+counted_equal W (suc count) (suc n) body body' h = step_equal W body body' (next_or (counted count n body)) (next_or (counted count n body')) h (next_equal W Always (counted count n body) (counted count n body') (counted_equal W count n body body' h))
+
+-- K says which calls are fellows
+pub calls_equal : {S A X X' : Type 0} (W : World S) (K : X → X' → Type 0) (P : X → S → Type 0) (V : X → A → S → Type 0) (callee : Callee S A X) (callee' : Callee S A X') → ((inner : X → Act S A) (inner' : X' → Act S A) → ((x : X) (x' : X') → K x x' → Equal W (P x) (V x) (inner x) (inner' x')) → (x : X) (x' : X') → K x x' → Equal W (P x) (V x) (callee inner x) (callee' inner' x')) → (d : ℕ) (x : X) (x' : X') → K x x' → Equal W (P x) (V x) (calls callee d x) (calls callee' d x')
+calls_equal W K P V callee callee' h zero x x' k = cut_equal W (P x) (V x)
+calls_equal W K P V callee callee' h (suc d) x x' k = h (calls callee d) (calls callee' d) (calls_equal W K P V callee callee' h d) x x' k
 
 -- in a state of its own, which another world keeps: a call with its frame
 pub within_equal : {S A : Type 0} (W W' : World S) (P P' : S → Type 0) (V V' : A → S → Type 0) (enter : S → S) (leave : S → S → S) (act act' : Act S A) → ((s : S) → W.holds s → P s → W'.holds (enter s) × P' (enter s)) → ((s : S) → W.holds s → P s → (a : A) (t : S) → W'.later (enter s) t → V' a t → W.later s (leave s t) × V a (leave s t)) → Equal W' P' V' act act' → Equal W P V (within enter leave act) (within enter leave act')

@@ -4,7 +4,7 @@ use Rattle.lf_base.specs.Outcome.{Location, Written, Ended, Cut, Wrong, Owed}
 use Rattle.lf_base.specs.Acts.{Stretch, Going, Stopped, Act, then_do, give, cut, next_or, turn, iterate}
 use Rattle.lf_base.specs.Order.{Grows, Link, Below, BelowFrom}
 use Rattle.lf_base.specs.Loops.{checked, with_test, landing, left_with, half, once, OrOut, Exited, OrIn, Entered}
-use Rattle.lf_base.proofs.Stretches.{Left, Tested, grows_bind, grows_give, grows_next, grows_iterate, below_bind, extends_then}
+use Rattle.lf_base.proofs.Stretches.{Left, Tested, grows_bind, grows_give, grows_next, grows_iterate, below_bind, extends_then, grows_cond}
 
 -- what follows a turn that `once` tells of
 abbrev after : {S B : Type 0} → Act S (Option B) → Option (Option B) → Act S (Option B)
@@ -32,6 +32,22 @@ grows_half {S} {B} body g false = grows_give {A = Option (Option B)} (Some None)
 pub grows_checked : {S B : Type 0} (out : B) (body : Act S (Option B)) → Grows body → (t : Bool) → Grows (checked out body t)
 grows_checked out body g true = g
 grows_checked {S} {B} out body g false = grows_give {A = Option B} (Some out)
+
+pub grows_landing : {S B : Type 0} (lands : B → Bool) (o : Option B) → Grows {S = S} (landing lands o)
+grows_landing {S} {B} lands None = grows_give {A = Option B} None
+grows_landing {S} {B} lands (Some b) = grows_cond (lands b) (give None) (give (Some b)) (grows_give {A = Option B} None) (grows_give (Some b))
+
+-- less is said of the states in which a loop ends
+module _ {S B S' B' : Type 0} (Q T : S → S' → Type 0) (k : (s : S) (s' : S') → Q s s' → T s s') where
+  pub exited_weaker : (L : Link S B S' B') (out : B') (o : Option B) (s : S) (o' : Option B') (s' : S') → Exited Q L out o s o' s' → Exited T L out o s o' s'
+  exited_weaker L out o s None s' h = h
+  exited_weaker L out None s (Some b') s' h = (h.0, k s s' h.1)
+  exited_weaker L out (Some b) s (Some b') s' h = h
+
+  pub entered_weaker : (L : Link S B S' B') (out : B) (o : Option B) (s : S) (o' : Option B') (s' : S') → Entered Q L out o s o' s' → Entered T L out o s o' s'
+  entered_weaker L out None s o' s' h = h
+  entered_weaker L out (Some b) s None s' h = (h.0, k s s' h.1)
+  entered_weaker L out (Some b) s (Some b') s' h = h
 
 grows_forever : {S B : Type 0} (n : ℕ) (body : Act S (Option B)) → Grows body → Grows (iterate n (give true) body)
 grows_forever n body g = grows_iterate n (give true) body (grows_give true) g

@@ -1,9 +1,11 @@
 -- Acts made of acts that match do: one lemma a combinator, for a pass whose states stand beside the first's.
-use Rattle.std.proofs.Common.{◌≡◌, ℕ, zero, suc, Bool, true, false, List, Option, Some, None, refl, sym, ap, subst}
+use Rattle.std.proofs.Common.{◌≡◌, ℕ, zero, suc, Bool, true, false, List, Option, Some, None, refl, sym, ap, subst, cond}
 use Rattle.lf_base.specs.Outcome.{Location, Written, Fault, Ended, Cut, Wrong}
-use Rattle.lf_base.specs.Acts.{Stretch, Going, Stopped, Act, then_do, bind, give, look, change, print, complain, stop, trap, cut, next_or, within, turn, iterate, outcome_of}
+use Rattle.lf_base.specs.Acts.{Stretch, Going, Stopped, Act, then_do, bind, give, look, change, print, complain, stop, trap, cut, next_or, within, turn, iterate, outcome_of, given}
 use Rattle.lf_base.specs.declared.trap.Trap.{Trap}
 use Rattle.lf_base.specs.Equal.{World, MatchAt, Match, Always, Anyhow}
+use Rattle.lf_base.specs.Loops.{landing, counted}
+use Rattle.lf_base.specs.Depth.{Callee, calls}
 
 module _ {S S' : Type 0} (W : World S) (Q : S → S' → Type 0) where
   match_earlier : {A : Type 0} (s t : S) (V : A → S → Type 0) (x : Stretch S A) (y : Stretch S' A) → W.later s t → MatchAt W Q t V x y → MatchAt W Q s V x y
@@ -64,6 +66,32 @@ module _ {S S' : Type 0} (W : World S) (Q : S → S' → Type 0) where
   pub iterate_match : {B : Type 0} (n : ℕ) (test : Act S Bool) (test' : Act S' Bool) (body : Act S (Option B)) (body' : Act S' (Option B)) → Match W Q Always Anyhow test test' → Match W Q Always Anyhow body body' → Match W Q Always Anyhow (iterate n test body) (iterate n test' body')
   iterate_match {B} zero test test' body body' h k = bind_match Always Anyhow Anyhow test test' (turn cut cut) (turn cut cut) h (λ t s i p. turn_match {B = B} (λ t. W.later s t × Unit {0}) cut cut cut cut (cut_match Always Anyhow) (cut_match Always Anyhow) t)
   iterate_match (suc n) test test' body body' h k = bind_match Always Anyhow Anyhow test test' (turn body (iterate n test body)) (turn body' (iterate n test' body')) h (λ t s i p. turn_match (λ t. W.later s t × Unit {0}) body (iterate n test body) body' (iterate n test' body') k (iterate_match n test test' body body' h k) t)
+
+  -- one act behind another, where nothing is said between them
+  pub step_match : {A B : Type 0} (act : Act S A) (act' : Act S' A) (go : A → Act S B) (go' : A → Act S' B) → Match W Q Always Anyhow act act' → ((a : A) → Match W Q Always Anyhow (go a) (go' a)) → Match W Q Always Anyhow (bind act go) (bind act' go')
+  step_match act act' go go' h k = bind_match Always Anyhow Anyhow act act' go go' h (λ a s i p. match_always (λ t. W.later s t × Unit {0}) Anyhow (go a) (go' a) (k a))
+
+  -- there is a value
+  pub given_match : {A : Type 0} (P : S → Type 0) (V : A → S → Type 0) (fault : Fault) (o : Option A) → ((s : S) → W.holds s → P s → (v : A) × (o ≡ Some v) × V v s) → Match W Q P V (given fault o) (given fault o)
+  given_match P V fault o h s s' i p q w = let x = h s i p in subst (λ o. MatchAt W Q s V (given fault o s w) (given fault o s' w)) (sym x.1) (W.same s, x.2, s', q, refl)
+
+  pub cond_match : {A : Type 0} (P : S → Type 0) (V : A → S → Type 0) (b : Bool) (x y : Act S A) (x' y' : Act S' A) → Match W Q P V x x' → Match W Q P V y y' → Match W Q P V (cond b x y) (cond b x' y')
+  cond_match P V true x y x' y' h k = h
+  cond_match P V false x y x' y' h k = k
+
+  pub landing_match : {B : Type 0} (P : S → Type 0) (lands : B → Bool) (o : Option B) → Match W Q P Anyhow (landing lands o) (landing lands o)
+  landing_match {B} P lands None = give_match {A = Option B} P Anyhow None (λ s i p. tt)
+  landing_match {B} P lands (Some b) = cond_match {A = Option B} P Anyhow (lands b) (give None) (give (Some b)) (give None) (give (Some b)) (give_match {A = Option B} P Anyhow None (λ s i p. tt)) (give_match P Anyhow (Some b) (λ s i p. tt))
+
+  pub counted_match : {B : Type 0} (count n : ℕ) (body : Act S (Option B)) (body' : Act S' (Option B)) → Match W Q Always Anyhow body body' → Match W Q Always Anyhow (counted count n body) (counted count n body')
+  counted_match {B} zero n body body' h = give_match {A = Option B} Always Anyhow None (λ s i p. tt)
+  counted_match {B} (suc count) zero body body' h = cut_match {A = Option B} Always Anyhow
+  counted_match (suc count) (suc n) body body' h = step_match body body' (next_or (counted count n body)) (next_or (counted count n body')) h (next_match Always (counted count n body) (counted count n body') (counted_match count n body body' h))
+
+  -- K says which calls are fellows
+  pub calls_match : {A X X' : Type 0} (K : X → X' → Type 0) (P : X → S → Type 0) (V : X → A → S → Type 0) (callee : Callee S A X) (callee' : Callee S' A X') → ((inner : X → Act S A) (inner' : X' → Act S' A) → ((x : X) (x' : X') → K x x' → Match W Q (P x) (V x) (inner x) (inner' x')) → (x : X) (x' : X') → K x x' → Match W Q (P x) (V x) (callee inner x) (callee' inner' x')) → (d : ℕ) (x : X) (x' : X') → K x x' → Match W Q (P x) (V x) (calls callee d x) (calls callee' d x')
+  calls_match K P V callee callee' h zero x x' k = cut_match (P x) (V x)
+  calls_match K P V callee callee' h (suc d) x x' k = h (calls callee d) (calls callee' d) (calls_match K P V callee callee' h d) x x' k
 
 -- in states of their own, which stand beside each other by another relation
 pub within_match : {S S' A : Type 0} (W W₁ : World S) (Q Q₁ : S → S' → Type 0) (P P₁ : S → Type 0) (V V₁ : A → S → Type 0) (enter : S → S) (leave : S → S → S) (enter' : S' → S') (leave' : S' → S' → S') (act : Act S A) (act' : Act S' A) → ((s : S) → W.holds s → P s → W₁.holds (enter s) × P₁ (enter s)) → ((s : S) (s' : S') → W.holds s → P s → Q s s' → Q₁ (enter s) (enter' s')) → ((s : S) → W.holds s → P s → (a : A) (t : S) → W₁.later (enter s) t → V₁ a t → W.later s (leave s t) × V a (leave s t)) → ((s t : S) (s' t' : S') → W.holds s → Q s s' → W₁.later (enter s) t → Q₁ t t' → Q (leave s t) (leave' s' t')) → Match W₁ Q₁ P₁ V₁ act act' → Match W Q P V (within enter leave act) (within enter' leave' act')

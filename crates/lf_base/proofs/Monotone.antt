@@ -1,8 +1,8 @@
 -- Larger bounds keep what ended and only add to what was written: through each combinator.
-use Rattle.std.proofs.Common.{◌≡◌, ℕ, ◌≤◌, Bool, List, [], ◌∷◌, map, Option, refl, sym, ap, subst, ◌∙◌}
+use Rattle.std.proofs.Common.{◌≡◌, ℕ, ◌≤◌, Bool, List, [], ◌∷◌, map, Option, refl, sym, ap, subst, ◌∙◌, true, false, cond, Some, None}
 use Rattle.std.specs.List.{AllByRecursion}
 use Rattle.lf_base.specs.Outcome.{Location, Written, Fault, Ended, Cut, Wrong, Extends, Owed, Any}
-use Rattle.lf_base.specs.Acts.{Stretch, Going, Stopped, Act, bind, in_order, within, iterate, outcome_of}
+use Rattle.lf_base.specs.Acts.{Stretch, Going, Stopped, Act, bind, in_order, within, iterate, outcome_of, give, next_or}
 use Rattle.lf_base.specs.Order.{ExtendsIn, Grows, Link, Below, BelowFrom, Same}
 use Rattle.lf_base.specs.Near.{IsMonotone}
 use Rattle.lf_base.specs.Monotone.{SameLocation, NoShorter}
@@ -23,6 +23,14 @@ bind_no_shorter act act' go go' h k g s w =
     below_then U SameLocation Same Same (act s w) (act' s w) go go' (h s w)
     (λ a t a' t' v r. subst (λ b. Below U SameLocation Same (go a t v) (go' b t' v)) (sym r.0) (subst (λ u. Below U SameLocation Same (go a t v) (go' a u v)) (sym r.1) (k a t v)))
     g
+
+pub cond_no_shorter : {S A : Type 0} (b : Bool) (x x' y : Act S A) → NoShorter x x' → NoShorter (cond b x y) (cond b x' y)
+cond_no_shorter true x x' y h = h
+cond_no_shorter false x x' y h = same_self y
+
+pub next_no_shorter : {S B : Type 0} (more more' : Act S (Option B)) → NoShorter more more' → (o : Option B) → NoShorter (next_or more o) (next_or more' o)
+next_no_shorter more more' h None = h
+next_no_shorter {S} {B} more more' h (Some b) = same_self (give {S = S} {A = Option B} (Some b))
 
 -- from states that are the same
 from_same : {S A : Type 0} (act act' : Act S A) (R : Link S A S A) → ((a : A) (s : S) → R a s a s) → NoShorter act act' → BelowFrom U SameLocation (Q S) R act act'

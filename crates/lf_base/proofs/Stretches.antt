@@ -1,5 +1,5 @@
 -- The order of outcomes goes through each combinator.
-use Rattle.std.proofs.Common.{◌≡◌, ℕ, zero, suc, ◌≤◌, Bool, true, false, List, Option, Some, None, refl, sym, ap, subst, arith, [], ◌∷◌}
+use Rattle.std.proofs.Common.{◌≡◌, ℕ, zero, suc, ◌≤◌, Bool, true, false, List, Option, Some, None, refl, sym, ap, subst, arith, [], ◌∷◌, cond}
 use Rattle.std.specs.List.{AllByRecursion}
 use Rattle.lf_base.specs.Outcome.{Location, Written, Fault, Ended, Cut, Wrong, IsBegun, Began, Owed, Any}
 use Rattle.lf_base.specs.Acts.{Stretch, Going, Stopped, Act, then_do, bind, give, look, change, print, complain, stop, trap, cut, wrong, away, given, next_or, in_order, within, turn, iterate}
@@ -61,6 +61,11 @@ grows_next {S} {B} more h (Some left) = grows_give {A = Option B} (Some left)
 pub grows_order : {S B : Type 0} (acts : List (Act S (Option B))) → AllByRecursion (Grows) acts → Grows (in_order acts)
 grows_order {S} {B} [] h = grows_give {A = Option B} None
 grows_order (act ∷ acts) h = grows_bind act (next_or (in_order acts)) h.0 (grows_next (in_order acts) (grows_order acts h.1))
+
+-- one of two, by a truth value
+pub grows_cond : {S A : Type 0} (b : Bool) (x y : Act S A) → Grows x → Grows y → Grows (cond b x y)
+grows_cond true x y g h = g
+grows_cond false x y g h = h
 
 pub grows_within : {S A : Type 0} (enter : S → S) (leave : S → S → S) (act : Act S A) → Grows act → Grows (within enter leave act)
 grows_within enter leave act h state sofar = extends_then sofar (act (enter state) sofar) (λ value inner later. Going value (leave state inner) later) (λ a s w. begun_same w) (h (enter state) sofar)

@@ -12,14 +12,13 @@ use Rattle.lf_base.proofs.Stretches.{Left, grows_bind, grows_give, grows_next, g
 use Rattle.lf_base.proofs.Alike.{alike_back}
 use Rattle.lf_base.proofs.Enough.{from_enough}
 use Rattle.lf_base.proofs.Equals.{bind_bind}
-use Rattle.lf_base.proofs.Inside.{tested_back, mapped_back, landing_back, grows_half}
+use Rattle.lf_base.proofs.Inside.{tested_back, mapped_back, landing_back, grows_half, grows_landing, entered_weaker}
 use Rattle.lf_base.proofs.Counting.{grows_counted, counted_back}
 use Rattle.link_toy.specs.Source.{Expression, Statement, Skip, Sequence, Assign, While, Repeat, Exit, Call, Print, Scope, knows, is_fine}
 use Rattle.link_toy.specs.Meaning.{Store, Signal, Leave, leaves, by_name, is_true, opened, enter, leave, largest_factor, value, test, invoke, exec}
 use Rattle.link_toy.specs.Target.{CStatement, Load, Subtract, Constant, Invoke, Set, Forever, Labelled, Memory, set_cell, call_cells, enter_frame, leave_frame, invoke_c, Callable, Procedure, exec_c}
 use Rattle.link_toy.specs.Translation.{Layout, IsLayout, evaluate, while_turn, repeat_turn, translate}
 use Rattle.link_toy.specs.Relation.{Kept, CellsKept, Stands, with_count, in_procedure, in_call, Besides, InTemporary, ExitJumps}
-use Rattle.link_toy.proofs.Counted.{grows_landing, entered_weaker}
 use Rattle.link_toy.proofs.Growth.{grows_exec, grows_test}
 use Rattle.link_toy.proofs.Helper.{after_load}
 use Rattle.link_toy.proofs.Cells.{count_begins, count_is, count_ends, counts_down, call_begins, call_returns}

@@ -6,12 +6,12 @@ use Rattle.lf_base.specs.Traps.{trap_status}
 use Rattle.lf_base.specs.Acts.{Act, bind, give, look, complain, stop, given, iterate}
 use Rattle.lf_base.specs.Order.{Grows}
 use Rattle.lf_base.specs.Depth.{CalleeGrows}
-use Rattle.lf_base.proofs.Stretches.{grows_bind, grows_give, grows_look, grows_change, grows_print, grows_complain, grows_stop, grows_trap, grows_given, grows_next, grows_within, grows_iterate}
+use Rattle.lf_base.proofs.Stretches.{grows_bind, grows_give, grows_look, grows_change, grows_print, grows_complain, grows_stop, grows_trap, grows_given, grows_next, grows_within, grows_iterate, grows_cond}
 use Rattle.lf_base.proofs.Counting.{grows_counted}
 use Rattle.link_toy.specs.Source.{Expression, Number, Variable, Sum, Less, Product, Statement, Skip, Sequence, Assign, While, Repeat, Exit, Call, Print, Scope}
 use Rattle.link_toy.specs.Meaning.{Store, Access, product, fetch, assign, value, test, exec, callee}
 use Rattle.link_toy.specs.Target.{CExpression, CStatement, Constant, Load, Add, Subtract, IsLess, Nothing, Then, Set, Forever, Labelled, Unless, Jump, Invoke, Write, Multiply, Memory, cell, load, c_value, add_once, is_counting, overflow, multiply, unless, multiply_into, Callable, Procedure, Multiplier, no_value, exec_c, callee_c}
-use Rattle.link_toy.proofs.Counted.{grows_cond, grows_landing}
+use Rattle.lf_base.proofs.Inside.{grows_landing}
 
 pub ruleset growing = (grows_bind, grows_give, grows_look, grows_change, grows_print, grows_complain, grows_given, grows_next, grows_within, grows_iterate, grows_counted, grows_cond, grows_landing)
 

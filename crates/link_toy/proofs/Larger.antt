@@ -7,13 +7,13 @@ use Rattle.lf_base.specs.Order.{Grows}
 use Rattle.lf_base.specs.Monotone.{NoShorter}
 use Rattle.lf_base.specs.Depth.{calls, CalleeLonger}
 use Rattle.lf_base.proofs.Stretches.{grows_bind, grows_give}
-use Rattle.lf_base.proofs.Monotone.{same_self, bind_no_shorter, iterate_no_shorter, within_no_shorter, outcomes_monotone}
+use Rattle.lf_base.proofs.Monotone.{same_self, bind_no_shorter, iterate_no_shorter, within_no_shorter, outcomes_monotone, cond_no_shorter, next_no_shorter}
 use Rattle.lf_base.proofs.Depths.{calls_grow, calls_no_shorter}
 use Rattle.link_toy.specs.Source.{Statement, Skip, Sequence, Assign, While, Repeat, Exit, Call, Print, Scope, Program}
 use Rattle.link_toy.specs.Meaning.{Store, Access, opened, exec, callee, whole, run_by}
 use Rattle.link_toy.specs.Target.{CStatement, Nothing, Then, Set, Forever, Labelled, Unless, Jump, Invoke, Write, Multiply, CProgram, Memory, load, is_counting, add_once, multiply, multiply_into, Callable, Procedure, Multiplier, no_value, exec_c, callee_c, whole_c, run_c}
-use Rattle.link_toy.proofs.Counted.{cond_no_shorter, next_no_shorter, counted_no_shorter}
 use Rattle.link_toy.proofs.Growth.{growing, grows_test, grows_exec, callee_grows, grows_load, grows_is_counting, grows_add_once, grows_multiply_into, grows_c, callee_c_grows}
+use Rattle.lf_base.proofs.Counting.{counted_no_shorter}
 
 ruleset larger = (same_self, bind_no_shorter, iterate_no_shorter, within_no_shorter, cond_no_shorter, next_no_shorter, counted_no_shorter)
 

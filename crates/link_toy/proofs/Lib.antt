@@ -1,14 +1,11 @@
 pub mod Back
 pub mod Cells
 pub mod Chain
-pub mod Counted
-pub mod Equalities
 pub mod Growth
 pub mod Helper
 pub mod Instance
 pub mod Larger
 pub mod Layouts
-pub mod Matchings
 pub mod Multiplying
 pub mod Names
 pub mod Nearness

@@ -9,12 +9,11 @@ use Rattle.lf_base.specs.Acts.{Act, bind, give, look, change, print, trap_at, gi
 use Rattle.lf_base.specs.Depth.{calls}
 use Rattle.lf_base.specs.Loops.{landing, counted}
 use Rattle.lf_base.specs.Equal.{World, Equal, Always, Anyhow}
-use Rattle.lf_base.proofs.Equals.{bind_equal, give_equal, print_equal, trap_equal, next_equal, iterate_equal, within_equal, sound_outcome}
+use Rattle.lf_base.proofs.Equals.{bind_equal, give_equal, print_equal, trap_equal, next_equal, iterate_equal, within_equal, sound_outcome, step_equal, look_equal, change_equal, given_equal, cond_equal, landing_equal, counted_equal, calls_equal}
 use Rattle.lf_base.proofs.Nearby.{near_of_equal}
 use Rattle.link_toy.specs.Source.{Expression, Number, Variable, Sum, Less, Product, Statement, Skip, Sequence, Assign, While, Repeat, Exit, Call, Print, Scope, Program, IsFine, is_declared, knows, is_fine, declared, number_of}
 use Rattle.link_toy.specs.Meaning.{Store, Signal, Leave, leaves, by_name, find, put, opened, enter, leave, less, is_true, largest_factor, line_of, product, fetch, assign, value, test, invoke, exec, callee, success, whole, run}
 use Rattle.link_toy.specs.Numbered.{names_of, by_number, put_number, resolve_expression, resolve, resolved, run_numbered}
-use Rattle.link_toy.proofs.Equalities.{step_equal, look_agrees, change_agrees, given_equal, cond_equal, landing_equal, counted_equal, calls_equal}
 use Rattle.link_toy.proofs.Larger.{source_larger}
 use Rattle.link_toy.proofs.Names.{Declares, names_put, names_opened, found, find_by_number, put_by_number}
 
@@ -34,13 +33,13 @@ module _ (scope : Scope) where
   fetch_same : (x : ℕ) → is_declared scope x ≡ true → Same (fetch by_name x) (fetch by_number (number_of scope x))
   fetch_same x d =
       bind_equal W Always HasValue Anyhow (look (find x)) (look (by_number.read (number_of scope x))) (given Stuck) (given Stuck)
-      (look_agrees W Always HasValue (find x) (by_number.read (number_of scope x)) (λ s i p. found scope x s i d) (λ s i p. find_by_number scope x s i))
+      (look_equal W Always HasValue (find x) (by_number.read (number_of scope x)) (λ s i p. found scope x s i d) (λ s i p. find_by_number scope x s i))
       (λ o s i p. given_equal W (λ t. W.later s t × HasValue o t) Anyhow Stuck o (λ t j q. (q.1.0, q.1.1, tt)))
 
   assign_same : (x v : ℕ) → is_declared scope x ≡ true → Same (assign by_name x v) (assign by_number (number_of scope x) v)
   assign_same x v d =
       step_equal W (fetch by_name x) (fetch by_number (number_of scope x)) (λ old. change (put x v)) (λ old. change (put_number (number_of scope x) v)) (fetch_same x d)
-      (λ old. change_agrees W Always Anyhow (put x v) (put_number (number_of scope x) v) (λ s i p. (names_put x v s, tt)) (λ s i p. put_by_number scope x v s i))
+      (λ old. change_equal W Always Anyhow (put x v) (put_number (number_of scope x) v) (λ s i p. (names_put x v s, tt)) (λ s i p. put_by_number scope x v s i))
 
   product_same : (here : Location) (u v : ℕ) → Same (product here u v) (product here u v)
   product_same here u v = cond_equal W Always Anyhow (leb u largest_factor) (give (u * v)) (give (u * v)) (trap_at IntegerOverflow here) (trap_at IntegerOverflow here) (given_same (u * v)) (trap_equal W Always Anyhow IntegerOverflow (trap_text IntegerOverflow here) (Some here))

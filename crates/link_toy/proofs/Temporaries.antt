@@ -10,12 +10,11 @@ use Rattle.lf_base.specs.Depth.{calls}
 use Rattle.lf_base.specs.Loops.{landing, counted}
 use Rattle.lf_base.specs.Equal.{World, MatchAt, Match, Always, Anyhow}
 use Rattle.lf_base.proofs.Equals.{bind_bind}
-use Rattle.lf_base.proofs.Matches.{bind_match, give_match, look_match, change_match, print_match, trap_match, next_match, iterate_match, within_match, match_outcomes}
+use Rattle.lf_base.proofs.Matches.{bind_match, give_match, look_match, change_match, print_match, trap_match, next_match, iterate_match, within_match, match_outcomes, step_match, given_match, cond_match, landing_match, counted_match, calls_match}
 use Rattle.lf_base.proofs.Nearby.{near_of_equal}
 use Rattle.link_toy.specs.Source.{Expression, Number, Variable, Sum, Less, Product, Statement, Skip, Sequence, Assign, While, Repeat, Exit, Call, Print, Scope, Program, IsFine, is_among, is_declared, knows, is_fine}
 use Rattle.link_toy.specs.Meaning.{Store, Signal, Leave, leaves, by_name, find, put, zeros, opened, enter, leave, less, is_true, largest_factor, line_of, product, fetch, assign, value, test, invoke, exec, callee, success, whole, run}
 use Rattle.link_toy.specs.Temporary.{through, widened, passed, IsNew}
-use Rattle.link_toy.proofs.Matchings.{step_match, given_match, cond_match, landing_match, counted_match, calls_match}
 use Rattle.link_toy.proofs.Larger.{source_larger}
 use Rattle.link_toy.proofs.Cells.{put_here, put_apart}
 use Rattle.link_toy.proofs.Names.{Declares, names_put, names_opened, found}

@@ -9,14 +9,13 @@ use Rattle.lf_base.proofs.Outcomes.{begun_same}
 use Rattle.lf_base.proofs.Stretches.{Left, grows_give, grows_next, below_bind, below_then, below_weaker, next_below}
 use Rattle.lf_base.proofs.Alike.{alike_there}
 use Rattle.lf_base.proofs.Equals.{bind_bind}
-use Rattle.lf_base.proofs.Inside.{tested_there, mapped_there, landing_there}
+use Rattle.lf_base.proofs.Inside.{tested_there, mapped_there, landing_there, grows_landing, exited_weaker}
 use Rattle.lf_base.proofs.Counting.{counted_there}
 use Rattle.link_toy.specs.Source.{Expression, Statement, Skip, Sequence, Assign, While, Repeat, Exit, Call, Print, Scope, knows, is_fine}
 use Rattle.link_toy.specs.Meaning.{Store, Signal, Leave, leaves, by_name, is_true, opened, leave, largest_factor, value, test, invoke, exec}
 use Rattle.link_toy.specs.Target.{CStatement, Load, Subtract, Constant, Invoke, Then, Unless, Set, Forever, Labelled, Memory, cell, set_cell, load, store_in, unless, call_cells, enter_frame, leave_frame, invoke_c, Callable, Procedure, exec_c}
 use Rattle.link_toy.specs.Translation.{Layout, IsLayout, evaluate, while_turn, repeat_turn, translate}
 use Rattle.link_toy.specs.Relation.{Kept, CellsKept, Stands, with_count, in_procedure, in_call, Besides, InTemporary, ExitJumps}
-use Rattle.link_toy.proofs.Counted.{grows_landing, exited_weaker}
 use Rattle.link_toy.proofs.Growth.{grows_c}
 use Rattle.link_toy.proofs.Helper.{after_load}
 use Rattle.link_toy.proofs.Cells.{count_begins, count_is, count_ends, counts_down, call_begins, call_returns}

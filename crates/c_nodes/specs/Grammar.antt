@@ -19,7 +19,7 @@ use Rattle.c_nodes.specs.declared.tree.CStmt.{CStmt}
 use Rattle.c_nodes.specs.declared.tree.CStmt.TheOpen.{CStmt-F}
 use Rattle.c_nodes.specs.declared.tree.CStmt.TheFolds.{fold-CStmt}
 use Rattle.c_nodes.specs.declared.tree.CItem.{CItem}
-use Rattle.c_nodes.specs.declared.tree.CItem.TheVariants.{Struct, Object, Prototype, Function}
+use Rattle.c_nodes.specs.declared.tree.CItem.TheVariants.{Struct, Object, StaticObject, StaticPointer, Prototype, Function}
 use Rattle.c_nodes.specs.declared.tree.CFile.{CFile}
 use Rattle.c_nodes.specs.Text.{file_text}
 
@@ -185,11 +185,15 @@ are_members (member ∷ members) = list_all is_object (member ∷ members)
 abbrev pub is_item : CItem → Bool
 is_item (Struct name members) = is_name name && are_members members
 is_item (Object is_extern object) = is_object object
+is_item (StaticObject kind name) = is_type kind && is_name name
+is_item (StaticPointer kind name) = is_type kind && is_name name
 is_item (Prototype result name parameters) = is_head result name parameters
 is_item (Function is_static result name parameters body) = is_head result name parameters && list_all is_stmt body && has_last_labels body
 
--- whether other files see the function, as they see each object (6.2.2)
+-- whether other files see the function or the object (6.2.2)
 abbrev pub is_external : CItem → Bool
+is_external (StaticObject kind name) = false
+is_external (StaticPointer kind name) = false
 is_external (Function is_static result name parameters body) = not is_static
 is_external item = true
 

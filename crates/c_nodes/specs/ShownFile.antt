@@ -10,7 +10,7 @@ use Rattle.c_nodes.specs.declared.tree.CExpr.TheVariants.{Variable, Index, Membe
 use Rattle.c_nodes.specs.declared.tree.CStmt.{CStmt}
 use Rattle.c_nodes.specs.declared.tree.CStmt.TheVariants.{Assign, ReturnValue, Goto, Label, Block, While, IfElse}
 use Rattle.c_nodes.specs.declared.tree.CItem.{CItem}
-use Rattle.c_nodes.specs.declared.tree.CItem.TheVariants.{Struct, Object, Function}
+use Rattle.c_nodes.specs.declared.tree.CItem.TheVariants.{Struct, Object, StaticObject, StaticPointer, Function}
 
 abbrev pub main : List CStmt → CItem
 main body = Function false gives.Int (codes "main") [] body
@@ -34,6 +34,8 @@ shown =
     p_type
     ∷ Object true (Single (type.Struct (codes "P")) (codes "s"))
     ∷ Object false (Array Int64 (codes "v") 3)
+    ∷ StaticObject Int64 (codes "n")
+    ∷ StaticPointer Byte (codes "q")
     ∷ main
     (Block
     (While (Constant 1)
@@ -47,7 +49,7 @@ shown =
     ∷ []
 
 abbrev pub shown_text : List ℕ
-shown_text = codes "struct P {\nint32_t x;\nunsigned char c[2];\n};\nextern struct P s;\nint64_t v[3];\nint main(void) {\n{\nwhile (1) {\ns.x = 1;\nif (s.c[1] == 3) {\ngoto e1;\n} else {\ns.c[1] = 3;\n}\n}\ne1: ;\n}\nreturn 0;\n}\n"
+shown_text = codes "struct P {\nint32_t x;\nunsigned char c[2];\n};\nextern struct P s;\nint64_t v[3];\nstatic int64_t n;\nstatic unsigned char *q;\nint main(void) {\n{\nwhile (1) {\ns.x = 1;\nif (s.c[1] == 3) {\ngoto e1;\n} else {\ns.c[1] = 3;\n}\n}\ne1: ;\n}\nreturn 0;\n}\n"
 
 -- no items of the profile: a label in front of another statement
 abbrev pub early_label : List CItem

@@ -21,7 +21,7 @@ use Rattle.c_nodes.specs.declared.tree.CStmt.{CStmt}
 use Rattle.c_nodes.specs.declared.tree.CStmt.TheOpen.{CStmt-F}
 use Rattle.c_nodes.specs.declared.tree.CStmt.TheFolds.{fold-CStmt}
 use Rattle.c_nodes.specs.declared.tree.CItem.{CItem}
-use Rattle.c_nodes.specs.declared.tree.CItem.TheVariants.{Struct, Object, Prototype, Function}
+use Rattle.c_nodes.specs.declared.tree.CItem.TheVariants.{Struct, Object, StaticObject, StaticPointer, Prototype, Function}
 use Rattle.c_nodes.specs.declared.tree.CFile.{CFile}
 
 abbrev pub type_text : CType → List ℕ
@@ -255,9 +255,14 @@ extern_text false = joined []
 abbrev pub structure_text : List ℕ → List CObject → List ℕ
 structure_text name members = joined (codes "struct " ∷ name ∷ codes " {\n" ∷ joined (object_texts members) ∷ codes "};\n" ∷ [])
 
+abbrev pub static_pointer_text : CType → List ℕ → List ℕ
+static_pointer_text kind name = joined (codes "static " ∷ pointer_text kind name ∷ codes ";\n" ∷ [])
+
 abbrev pub item_text : CItem → List ℕ
 item_text (Struct name members) = structure_text name members
 item_text (Object is_extern object) = joined (extern_text is_extern ∷ object_text object ∷ [])
+item_text (StaticObject kind name) = joined (codes "static " ∷ plain_text kind name ∷ [])
+item_text (StaticPointer kind name) = static_pointer_text kind name
 item_text (Prototype result name parameters) = joined (head_text result name parameters ∷ codes ";\n" ∷ [])
 item_text (Function is_static result name parameters body) = joined (static_text is_static ∷ head_text result name parameters ∷ codes " {\n" ∷ closed_text (stmt_texts body) ∷ [])
 

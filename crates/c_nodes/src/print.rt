@@ -5,7 +5,7 @@ ghost use Rattle.std.specs.Prelude.{[], ◌∷◌, Ok, OnOk, OnErr};
 ghost use Rattle.lf_base.specs.Causes.{HasCause};
 ghost use Rattle.lf_base.specs.Contents.{Appends, AppendsPart, joined};
 ghost use Rattle.lf_base.specs.Puts.{Puts, Causes};
-ghost use Rattle.c_nodes.specs.Text.{behind_comma, behind_commas, listed, declared_text, pointer_text, stored_text, received_text, array_text, returned_text, returned_call_text, plain_text, initialized_text, initialized_pointer_text, initialized_by_text, assigned_text, assigned_by_text, called_text, goto_text, label_text, opened_text, closed_text, guarded_text, else_text, stmt_text, stmt_texts, parameter_text, parameter_texts, enclosed_text, parameters_text, head_text, static_text, sized_text, object_text, object_texts, extern_text, structure_text, item_text, item_texts, file_text};
+ghost use Rattle.c_nodes.specs.Text.{behind_comma, behind_commas, listed, declared_text, pointer_text, stored_text, received_text, array_text, returned_text, returned_call_text, plain_text, initialized_text, initialized_pointer_text, initialized_by_text, assigned_text, assigned_by_text, called_text, goto_text, label_text, opened_text, closed_text, guarded_text, else_text, stmt_text, stmt_texts, parameter_text, parameter_texts, enclosed_text, parameters_text, head_text, static_text, sized_text, object_text, object_texts, extern_text, structure_text, static_pointer_text, item_text, item_texts, file_text};
 
 use crate::expressions::{Ended, put, put_call, put_constant, put_expr, put_result, put_type};
 use crate::tree::{CExpr, CFile, CItem, CObject, CParameter, CResult, CStmt, CType};
@@ -501,6 +501,17 @@ fn put_extern<O: Sink>(before: Ended, out: &mut O, is_extern: bool) -> Ended
 }
 
 #[tactic(auto, using(lf_base::proofs::Chains::chains))]
+fn put_static_pointer<O: Sink>(before: Ended, out: &mut O, kind: &CType, name: &Name) -> Ended
+    ensures text { Puts before result (O.contents out.old) (O.contents out.new) (static_pointer_text kind.now name.now) }
+    ensures cause { Causes before result (O.faults out.old) (O.faults out.new) }
+    ensures keeps { O.keeps out.old out.new }
+{
+    let ended = put(before, out, b"static ");
+    let ended = put_pointer(ended, out, kind, name);
+    put(ended, out, b";\n")
+}
+
+#[tactic(auto, using(lf_base::proofs::Chains::chains))]
 fn put_item<O: Sink>(before: Ended, out: &mut O, item: &CItem) -> Ended
     ensures text { Puts before result (O.contents out.old) (O.contents out.new) (item_text item.now) }
     ensures cause { Causes before result (O.faults out.old) (O.faults out.new) }
@@ -513,6 +524,13 @@ fn put_item<O: Sink>(before: Ended, out: &mut O, item: &CItem) -> Ended
             out,
             object,
         ),
+        CItem::StaticObject { kind, name } => put_plain(
+            put(before, out, b"static "),
+            out,
+            kind,
+            name,
+        ),
+        CItem::StaticPointer { kind, name } => put_static_pointer(before, out, kind, name),
         CItem::Prototype {
             result,
             name,

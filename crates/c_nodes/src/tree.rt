@@ -230,6 +230,16 @@ pub enum CItem {
         is_extern: bool,
         object: CObject,
     },
+    /// `static T N;`, in the prelude alone. The object belongs to its file (6.2.2).
+    StaticObject {
+        kind: CType,
+        name: Name,
+    },
+    /// `static T *N;`, in the prelude alone
+    StaticPointer {
+        kind: CType,
+        name: Name,
+    },
     /// `R N(P);`
     Prototype {
         result: CResult,

@@ -3,8 +3,10 @@ pub mod PreludeCalls
 pub mod PreludeDigits
 pub mod PreludeGap
 pub mod PreludeInts
+pub mod PreludeLine
 pub mod PreludeLinked
 pub mod PreludeMultiply
 pub mod PreludeProducts
 pub mod PreludeTexts
 pub mod PreludeTrap
+pub mod PreludeTrapLaw

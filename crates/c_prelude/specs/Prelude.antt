@@ -8,14 +8,23 @@ use Rattle.c_nodes.specs.declared.tree.CBinary.TheVariants.{Add, Subtract, Multi
 use Rattle.c_nodes.specs.declared.tree.CExpr.TheVariants.{Variable, Index, Constant, Greatest, Least, Paren, Negate, Binary, ToInt, Literal}
 use Rattle.c_nodes.specs.declared.tree.CStmt.TheVariants.{DeclareArray, DeclareValue, DeclarePointer, DeclareCall, Assign, AssignCall, Call, ReturnValue, ReturnCall, While, If, IfElse}
 use Rattle.c_nodes.specs.declared.tree.CItem.{CItem}
-use Rattle.c_nodes.specs.declared.tree.CItem.TheVariants.{Function}
+use Rattle.c_nodes.specs.declared.tree.CItem.TheVariants.{StaticObject, StaticPointer, Function}
 use Rattle.c_nodes.specs.declared.tree.CFile.{CFile}
 
--- writes the name of trap k and ends with status 100 + k
+-- the name of the source whose statement is being executed
+abbrev pub lf_name : CItem
+lf_name = StaticPointer Byte (codes "lf_name")
+
+-- and its line
+abbrev pub lf_line : CItem
+lf_line = StaticObject Int64 (codes "lf_line")
+
+-- writes the name of trap k with the source and the line, and ends with status 100 + k
 abbrev pub lf_trap : CItem
 lf_trap =
     Function true gives.Void (codes "lf_trap") (Value Int64 (codes "k") ∷ Pointer Byte (codes "s") ∷ [])
     (DeclareValue Int64 (codes "i") (Constant 0)
+    ∷ DeclareValue Int64 (codes "d") (Constant 1)
     ∷ DeclarePointer Byte (codes "p") (Literal (codes "lf: trap "))
     ∷ While (Binary Differ (Index (Variable (codes "p")) (Variable (codes "i"))) (Constant 0))
     (Call (codes "fputc") (Index (Variable (codes "p")) (Variable (codes "i")) ∷ Variable (codes "stderr") ∷ [])
@@ -25,6 +34,23 @@ lf_trap =
     ∷ While (Binary Differ (Index (Variable (codes "s")) (Variable (codes "i"))) (Constant 0))
     (Call (codes "fputc") (Index (Variable (codes "s")) (Variable (codes "i")) ∷ Variable (codes "stderr") ∷ [])
     ∷ Assign (Variable (codes "i")) (Binary Add (Variable (codes "i")) (Constant 1))
+    ∷ [])
+    ∷ Call (codes "fputc") (Constant 32 ∷ Variable (codes "stderr") ∷ [])
+    ∷ Call (codes "fputc") (Constant 97 ∷ Variable (codes "stderr") ∷ [])
+    ∷ Call (codes "fputc") (Constant 116 ∷ Variable (codes "stderr") ∷ [])
+    ∷ Call (codes "fputc") (Constant 32 ∷ Variable (codes "stderr") ∷ [])
+    ∷ Assign (Variable (codes "i")) (Constant 0)
+    ∷ While (Binary Differ (Index (Variable (codes "lf_name")) (Variable (codes "i"))) (Constant 0))
+    (Call (codes "fputc") (Index (Variable (codes "lf_name")) (Variable (codes "i")) ∷ Variable (codes "stderr") ∷ [])
+    ∷ Assign (Variable (codes "i")) (Binary Add (Variable (codes "i")) (Constant 1))
+    ∷ [])
+    ∷ Call (codes "fputc") (Constant 58 ∷ Variable (codes "stderr") ∷ [])
+    ∷ While (Binary AtMost (Variable (codes "d")) (Paren (Binary Divide (Variable (codes "lf_line")) (Constant 10))))
+    (Assign (Variable (codes "d")) (Binary Multiply (Variable (codes "d")) (Constant 10))
+    ∷ [])
+    ∷ While (Binary Less (Constant 0) (Variable (codes "d")))
+    (Call (codes "fputc") (ToInt (Paren (Binary Add (Constant 48) (Paren (Binary Remainder (Paren (Binary Divide (Variable (codes "lf_line")) (Variable (codes "d")))) (Constant 10))))) ∷ Variable (codes "stderr") ∷ [])
+    ∷ Assign (Variable (codes "d")) (Binary Divide (Variable (codes "d")) (Constant 10))
     ∷ [])
     ∷ Call (codes "fputc") (Constant 10 ∷ Variable (codes "stderr") ∷ [])
     ∷ Call (codes "exit") (ToInt (Paren (Binary Add (Constant 100) (Variable (codes "k")))) ∷ [])
@@ -428,7 +454,7 @@ lf_end =
     ∷ [])
 
 abbrev pub prelude_items : List CItem
-prelude_items = lf_trap ∷ lf_over ∷ lf_zero ∷ lf_fit ∷ lf_add ∷ lf_sub ∷ lf_mul ∷ lf_div ∷ lf_mod ∷ lf_modulo ∷ lf_pow ∷ lf_sign ∷ lf_min ∷ lf_max ∷ lf_count ∷ lf_at ∷ lf_sec ∷ lf_same ∷ lf_need ∷ lf_part ∷ lf_join ∷ lf_code ∷ lf_copy ∷ lf_cmp ∷ lf_trim ∷ lf_index ∷ lf_gap ∷ lf_int ∷ lf_chars ∷ lf_read ∷ lf_end ∷ []
+prelude_items = lf_name ∷ lf_line ∷ lf_trap ∷ lf_over ∷ lf_zero ∷ lf_fit ∷ lf_add ∷ lf_sub ∷ lf_mul ∷ lf_div ∷ lf_mod ∷ lf_modulo ∷ lf_pow ∷ lf_sign ∷ lf_min ∷ lf_max ∷ lf_count ∷ lf_at ∷ lf_sec ∷ lf_same ∷ lf_need ∷ lf_part ∷ lf_join ∷ lf_code ∷ lf_copy ∷ lf_cmp ∷ lf_trim ∷ lf_index ∷ lf_gap ∷ lf_int ∷ lf_chars ∷ lf_read ∷ lf_end ∷ []
 
 abbrev pub prelude_file : CFile
 prelude_file = record { items = prelude_items }

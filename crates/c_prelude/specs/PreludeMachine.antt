@@ -12,6 +12,7 @@ use Rattle.c_nodes.specs.declared.tree.CStmt.{CStmt}
 use Rattle.c_nodes.specs.declared.tree.CStmt.TheVariants as stmt
 use Rattle.c_nodes.specs.declared.tree.CItem.{CItem}
 use Rattle.c_nodes.specs.declared.tree.CItem.TheVariants.{Function}
+use Rattle.c_nodes.specs.declared.tree.CItem.TheVariants as item
 use Rattle.c_prelude.specs.declared.prelude_instruction.Word.{Word}
 use Rattle.c_prelude.specs.declared.prelude_instruction.Word.TheVariants as word
 use Rattle.c_prelude.specs.declared.prelude_instruction.Callee.{Callee}
@@ -19,7 +20,7 @@ use Rattle.c_prelude.specs.declared.prelude_instruction.Callee.TheVariants as ca
 use Rattle.c_prelude.specs.declared.prelude_instruction.Message.{Message}
 use Rattle.c_prelude.specs.declared.prelude_instruction.Message.TheVariants as message
 use Rattle.c_prelude.specs.declared.prelude_instruction.Instruction.{Instruction}
-use Rattle.c_prelude.specs.declared.prelude_instruction.Instruction.TheVariants.{Number, Greatest, Least, Variable, Literal, Index, Paren, Negate, ToInt, Binary, Argument, Body, DeclareValue, DeclarePointer, DeclareArray, DeclareCall, Assign, AssignCall, Call, ReturnValue, ReturnCall, While, If, IfElse, Value, BytePointer, NumberPointer, VoidFunction, NumberFunction}
+use Rattle.c_prelude.specs.declared.prelude_instruction.Instruction.TheVariants.{Number, Greatest, Least, Variable, Literal, Index, Paren, Negate, ToInt, Binary, Argument, Body, DeclareValue, DeclarePointer, DeclareArray, DeclareCall, Assign, AssignCall, Call, ReturnValue, ReturnCall, While, If, IfElse, Value, BytePointer, NumberPointer, StaticNumber, StaticPointer, VoidFunction, NumberFunction}
 use Rattle.c_prelude.specs.declared.prelude_machine.Machine.{Machine}
 use Rattle.c_prelude.specs.declared.prelude_machine.Fault.{Fault}
 use Rattle.c_prelude.specs.declared.prelude_machine.Fault.TheVariants.{Memory, Broken}
@@ -34,8 +35,10 @@ word_text word.I = codes "i"
 word_text word.J = codes "j"
 word_text word.K = codes "k"
 word_text word.L = codes "l"
+word_text word.Line = codes "lf_line"
 word_text word.M = codes "m"
 word_text word.N = codes "n"
+word_text word.Name = codes "lf_name"
 word_text word.P = codes "p"
 word_text word.R = codes "r"
 word_text word.S = codes "s"
@@ -135,7 +138,7 @@ abbrev pub with_parameter : State → CParameter → Option State
 with_parameter s p = Some (record s { parameters = s.parameters ++ p ∷ [] })
 
 abbrev pub with_item : State → CItem → Option State
-with_item s item = Some (record s { items = s.items ++ item ∷ [] })
+with_item s defined = Some (record s { items = s.items ++ defined ∷ [] })
 
 abbrev pub with_function : State → CResult → List ℕ → Option State
 with_function s result name = on_block s (λ block t. with_item (record t { parameters = [] }) (Function true result name t.parameters block))
@@ -168,6 +171,8 @@ taken s IfElse = on_value s (λ test t. on_block t (λ other u. on_block u (λ b
 taken s (Value w) = with_parameter s (parameter.Value Int64 (word_text w))
 taken s (BytePointer w) = with_parameter s (parameter.Pointer Byte (word_text w))
 taken s (NumberPointer w) = with_parameter s (parameter.Pointer Int64 (word_text w))
+taken s (StaticNumber w) = with_item s (item.StaticObject Int64 (word_text w))
+taken s (StaticPointer w) = with_item s (item.StaticPointer Byte (word_text w))
 taken s (VoidFunction c) = with_function s gives.Void (callee_text c)
 taken s (NumberFunction c) = with_function s gives.Int64 (callee_text c)
 

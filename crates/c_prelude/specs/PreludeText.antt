@@ -9,10 +9,17 @@ header_lines =
     ∷ codes "#include <stdlib.h>\n"
     ∷ []
 
+abbrev pub location_lines : List (List ℕ)
+location_lines =
+    codes "static unsigned char *lf_name;\n"
+    ∷ codes "static int64_t lf_line;\n"
+    ∷ []
+
 abbrev pub lf_trap_lines : List (List ℕ)
 lf_trap_lines =
     codes "static void lf_trap(int64_t k, unsigned char *s) {\n"
     ∷ codes "int64_t i = 0;\n"
+    ∷ codes "int64_t d = 1;\n"
     ∷ codes "unsigned char *p = (unsigned char *)\"lf: trap \";\n"
     ∷ codes "while (p[i] != 0) {\n"
     ∷ codes "fputc(p[i], stderr);\n"
@@ -22,6 +29,23 @@ lf_trap_lines =
     ∷ codes "while (s[i] != 0) {\n"
     ∷ codes "fputc(s[i], stderr);\n"
     ∷ codes "i = i + 1;\n"
+    ∷ codes "}\n"
+    ∷ codes "fputc(32, stderr);\n"
+    ∷ codes "fputc(97, stderr);\n"
+    ∷ codes "fputc(116, stderr);\n"
+    ∷ codes "fputc(32, stderr);\n"
+    ∷ codes "i = 0;\n"
+    ∷ codes "while (lf_name[i] != 0) {\n"
+    ∷ codes "fputc(lf_name[i], stderr);\n"
+    ∷ codes "i = i + 1;\n"
+    ∷ codes "}\n"
+    ∷ codes "fputc(58, stderr);\n"
+    ∷ codes "while (d <= (lf_line / 10)) {\n"
+    ∷ codes "d = d * 10;\n"
+    ∷ codes "}\n"
+    ∷ codes "while (0 < d) {\n"
+    ∷ codes "fputc((int)(48 + ((lf_line / d) % 10)), stderr);\n"
+    ∷ codes "d = d / 10;\n"
     ∷ codes "}\n"
     ∷ codes "fputc(10, stderr);\n"
     ∷ codes "exit((int)(100 + k));\n"
@@ -426,4 +450,4 @@ lf_end_lines =
     ∷ []
 
 abbrev pub prelude_text : List ℕ
-prelude_text = joined (map joined (header_lines ∷ lf_trap_lines ∷ lf_over_lines ∷ lf_zero_lines ∷ lf_fit_lines ∷ lf_add_lines ∷ lf_sub_lines ∷ lf_mul_lines ∷ lf_div_lines ∷ lf_mod_lines ∷ lf_modulo_lines ∷ lf_pow_lines ∷ lf_sign_lines ∷ lf_min_lines ∷ lf_max_lines ∷ lf_count_lines ∷ lf_at_lines ∷ lf_sec_lines ∷ lf_same_lines ∷ lf_need_lines ∷ lf_part_lines ∷ lf_join_lines ∷ lf_code_lines ∷ lf_copy_lines ∷ lf_cmp_lines ∷ lf_trim_lines ∷ lf_index_lines ∷ lf_gap_lines ∷ lf_int_lines ∷ lf_chars_lines ∷ lf_read_lines ∷ lf_end_lines ∷ []))
+prelude_text = joined (map joined (header_lines ∷ location_lines ∷ lf_trap_lines ∷ lf_over_lines ∷ lf_zero_lines ∷ lf_fit_lines ∷ lf_add_lines ∷ lf_sub_lines ∷ lf_mul_lines ∷ lf_div_lines ∷ lf_mod_lines ∷ lf_modulo_lines ∷ lf_pow_lines ∷ lf_sign_lines ∷ lf_min_lines ∷ lf_max_lines ∷ lf_count_lines ∷ lf_at_lines ∷ lf_sec_lines ∷ lf_same_lines ∷ lf_need_lines ∷ lf_part_lines ∷ lf_join_lines ∷ lf_code_lines ∷ lf_copy_lines ∷ lf_cmp_lines ∷ lf_trim_lines ∷ lf_index_lines ∷ lf_gap_lines ∷ lf_int_lines ∷ lf_chars_lines ∷ lf_read_lines ∷ lf_end_lines ∷ []))

@@ -4,7 +4,7 @@ ghost use Rattle.std.specs.Prelude.{◌≡◌};
 
 use c_nodes::CBinary;
 
-/// A variable or a parameter of the prelude's functions.
+/// A variable or a parameter of the prelude's functions, or one of its static objects.
 #[derive(Clone, Copy)]
 pub enum Word {
     A,
@@ -16,8 +16,10 @@ pub enum Word {
     J,
     K,
     L,
+    Line,
     M,
     N,
+    Name,
     P,
     R,
     S,
@@ -123,6 +125,10 @@ pub enum Instruction {
     Value(Word),
     BytePointer(Word),
     NumberPointer(Word),
+    /// A static `int64_t`.
+    StaticNumber(Word),
+    /// A static pointer to bytes.
+    StaticPointer(Word),
     /// A function that returns nothing.
     VoidFunction(Callee),
     /// A function that returns an `int64_t`.
@@ -145,8 +151,10 @@ impl Word {
             Word::J => b"j",
             Word::K => b"k",
             Word::L => b"l",
+            Word::Line => b"lf_line",
             Word::M => b"m",
             Word::N => b"n",
+            Word::Name => b"lf_name",
             Word::P => b"p",
             Word::R => b"r",
             Word::S => b"s",

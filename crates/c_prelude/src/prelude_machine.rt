@@ -39,7 +39,7 @@ impl From<lf_base::Memory> for Fault {
 }
 
 /// What is made so far: the values, with the newest in front; in order, the arguments of the next call, the
-/// statements of the innermost block, the parameters of the next function, and the functions; and the blocks
+/// statements of the innermost block, the parameters of the next function, and the items; and the blocks
 /// that are open around the innermost, the nearest in front.
 #[derive(Drop)]
 pub struct Machine {
@@ -366,6 +366,26 @@ impl Machine {
         }
     }
 
+    fn static_number(&mut self, alloc: Global, word: Word) -> Result<(), Fault>
+        ensures { Took (state_of self.new) result (taken (state_of self.old) (Instruction.StaticNumber word)) }
+    {
+        let name = Name::new(alloc, word.bytes())?;
+        self.define(CItem::StaticObject {
+            kind: CType::Int64,
+            name,
+        })
+    }
+
+    fn static_pointer(&mut self, alloc: Global, word: Word) -> Result<(), Fault>
+        ensures { Took (state_of self.new) result (taken (state_of self.old) (Instruction.StaticPointer word)) }
+    {
+        let name = Name::new(alloc, word.bytes())?;
+        self.define(CItem::StaticPointer {
+            kind: CType::Byte,
+            name,
+        })
+    }
+
     fn take(&mut self, alloc: Global, instruction: Instruction) -> Result<(), Fault>
         ensures { Took (state_of self.new) result (taken (state_of self.old) instruction) }
     {
@@ -397,6 +417,8 @@ impl Machine {
             Instruction::Value(word) => self.value_parameter(alloc, word),
             Instruction::BytePointer(word) => self.pointer_parameter(alloc, CType::Byte, word),
             Instruction::NumberPointer(word) => self.pointer_parameter(alloc, CType::Int64, word),
+            Instruction::StaticNumber(word) => self.static_number(alloc, word),
+            Instruction::StaticPointer(word) => self.static_pointer(alloc, word),
             Instruction::VoidFunction(callee) => self.function(alloc, CResult::Void, callee),
             Instruction::NumberFunction(callee) => self.function(alloc, CResult::Int64, callee),
         }

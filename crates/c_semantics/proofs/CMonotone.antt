@@ -16,8 +16,8 @@ use Rattle.c_nodes.specs.declared.tree.CExpr.{CExpr}
 use Rattle.c_nodes.specs.declared.tree.CStmt.{CStmt}
 use Rattle.c_nodes.specs.declared.tree.CFile.{CFile}
 use Rattle.c_semantics.specs.CValues.{CValue, Number, Pointer, Errors, Structure, to_int}
-use Rattle.c_semantics.specs.CState.{Leads, State, no_names, declare, closed}
-use Rattle.c_semantics.specs.CMeaning.{reading, Designated, value_of, place_of, all_given, arguments_of, stored_in, store, become, Flow, Returned, Jumped, Doing, Clause, Calls, then_next, newest, initialize, room, begin_object, begin_array, answer, answered, tested, holds, choose, landed, last_label, block, clause, statement, statements, Procedure, call, left, entered, bound_all, returned, on_int, put_out, put_error, get_byte, leave, library_or, on_procedure, calls_of, function_of, run_main, main_of, begin, CMeaning, status_of, byte_of, written_byte, next_byte, without_first}
+use Rattle.c_semantics.specs.CState.{Leads, State, declare, closed}
+use Rattle.c_semantics.specs.CMeaning.{reading, Designated, value_of, place_of, all_given, arguments_of, stored_in, store, become, Flow, Returned, Jumped, Doing, Clause, Calls, then_next, newest, initialize, room, begin_object, begin_array, answer, answered, tested, holds, choose, landed, last_label, block, clause, statement, statements, Procedure, called, call, entering, returned, on_int, put_out, put_error, get_byte, leave, library_or, on_procedure, calls_of, function_of, run_main, main_of, main_file, begin, CMeaning, status_of, byte_of, written_byte, next_byte, without_first}
 use Rattle.c_nodes.proofs.StmtInduction.{by_cases}
 use Rattle.c_semantics.proofs.CRuns.{all_do}
 use Rattle.c_semantics.proofs.CStmts.{does-Declare, does-DeclareArray, does-DeclareValue, does-DeclarePointer, does-DeclareCall, does-Assign, does-AssignCall, does-Call, does-Return, does-ReturnValue, does-ReturnCall, does-Goto, does-Label, does-Block, does-While, does-If, does-IfElse, clause-Declare, clause-DeclareArray, clause-DeclareValue, clause-DeclarePointer, clause-DeclareCall, clause-Assign, clause-AssignCall, clause-Call, clause-Return, clause-ReturnValue, clause-ReturnCall, clause-Goto, clause-Label, clause-Block, clause-While, clause-If, clause-IfElse}
@@ -114,11 +114,14 @@ module _ (n : ℕ) (calls : Calls) (g : CallsGrow calls) where
   pub statements_grow : (body : List CStmt) → G (statements n calls body)
   statements_grow body = grows_order (map (statement n calls) body) (all_map G (statement n calls) body (all_grow body))
 
+  pub called_grows : (p : Procedure) (inner : State) → G (called n calls p inner)
+  called_grows p inner = grows_within (λ s. inner) closed (bind (statements n calls p.body) (λ flow. give (returned p.result flow))) (grows_bind (statements n calls p.body) (λ flow. give (returned p.result flow)) (statements_grow p.body) (λ flow. grows_give (returned p.result flow)))
+
   pub call_grows : (p : Procedure) (vs : List CValue) → G (call n calls p vs)
   call_grows p vs =
-      grows_bind (bind (look (entered (bound_all p.parameters vs (Some no_names)))) become) (λ u. within (λ s. s) (λ before after. left after) (bind (statements n calls p.body) (λ flow. give (returned p.result flow))))
-      (grows_bind (look (entered (bound_all p.parameters vs (Some no_names)))) become (grows_look (entered (bound_all p.parameters vs (Some no_names)))) become_grows)
-      (λ u. grows_within (λ s. s) (λ before after. left after) (bind (statements n calls p.body) (λ flow. give (returned p.result flow))) (grows_bind (statements n calls p.body) (λ flow. give (returned p.result flow)) (statements_grow p.body) (λ flow. grows_give (returned p.result flow))))
+      grows_bind (bind (look (entering p vs)) (given Undefined)) (called n calls p)
+      (grows_bind (look (entering p vs)) (given Undefined) (grows_look (entering p vs)) given_grows)
+      (called_grows p)
 
 on_int_grows : (o : Option CValue) (go : ℤ → Act State (Option CValue)) → ((z : ℤ) → G (go z)) → G (on_int o go)
 on_int_grows None go h = grows_wrong State (Option CValue) Undefined (λ w. tt)
@@ -283,14 +286,15 @@ module _ (n n' : ℕ) (le : n ≤ n') (calls calls' : Calls) (longer : CallsLong
   pub statements_longer : (body : List CStmt) → M (statements n calls body) (statements n' calls' body)
   statements_longer body = order_no_shorter (statement n calls) (statement n' calls') body (both body (all_longer body))
 
+  pub called_longer : (p : Procedure) (inner : State) → M (called n calls p inner) (called n' calls' p inner)
+  called_longer p inner = within_no_shorter (λ s. inner) closed (bind (statements n calls p.body) (λ flow. give (returned p.result flow))) (bind (statements n' calls' p.body) (λ flow. give (returned p.result flow))) (after_longer (statements n calls p.body) (statements n' calls' p.body) (λ flow. give (returned p.result flow)) (statements_longer p.body) (λ flow. grows_give (returned p.result flow)))
+
   pub call_longer : (p : Procedure) (vs : List CValue) → M (call n calls p vs) (call n' calls' p vs)
   call_longer p vs =
-      bind_no_shorter (bind (look (entered (bound_all p.parameters vs (Some no_names)))) become) (bind (look (entered (bound_all p.parameters vs (Some no_names)))) become)
-      (λ u. within (λ s. s) (λ before after. left after) (bind (statements n calls p.body) (λ flow. give (returned p.result flow))))
-      (λ u. within (λ s. s) (λ before after. left after) (bind (statements n' calls' p.body) (λ flow. give (returned p.result flow))))
-      (same_self (bind (look (entered (bound_all p.parameters vs (Some no_names)))) become))
-      (λ u. within_no_shorter (λ s. s) (λ before after. left after) (bind (statements n calls p.body) (λ flow. give (returned p.result flow))) (bind (statements n' calls' p.body) (λ flow. give (returned p.result flow))) (after_longer (statements n calls p.body) (statements n' calls' p.body) (λ flow. give (returned p.result flow)) (statements_longer p.body) (λ flow. grows_give (returned p.result flow))))
-      (λ u. grows_within (λ s. s) (λ before after. left after) (bind (statements n' calls' p.body) (λ flow. give (returned p.result flow))) (grows_bind (statements n' calls' p.body) (λ flow. give (returned p.result flow)) (statements_grow n' calls' g p.body) (λ flow. grows_give (returned p.result flow))))
+      bind_no_shorter (bind (look (entering p vs)) (given Undefined)) (bind (look (entering p vs)) (given Undefined)) (called n calls p) (called n' calls' p)
+      (same_self (bind (look (entering p vs)) (given Undefined)))
+      (called_longer p)
+      (called_grows n' calls' g p)
 
 if_longer : (t : Bool) (a b b' : Act State (Option CValue)) → M b b' → M (cond t a b) (cond t a b')
 if_longer true a b b' h = same_self a
@@ -315,12 +319,12 @@ calls_longer files n n' (suc d) (suc d') file ln ld =
 
 main_longer : (files : List CFile) (n n' d d' : ℕ) → n ≤ n' → d ≤ d' → (o : Option Procedure) → M (run_main files n d o) (run_main files n' d' o)
 main_longer files n n' d d' ln ld None = same_self {A = ℕ} (wrong Undefined)
-main_longer files n n' d d' ln ld (Some p) = after_longer (statements n (calls_of files n d p.file) p.body) (statements n' (calls_of files n' d' p.file) p.body) (λ flow. give (status_of flow)) (statements_longer n n' ln (calls_of files n d p.file) (calls_of files n' d' p.file) (calls_longer files n n' d d' p.file ln ld) (calls_grow files n' d' p.file) p.body) (λ flow. grows_give (status_of flow))
+main_longer files n n' d d' ln ld (Some p) = after_longer (statements n (calls_of files n d p.file) p.body) (statements n' (calls_of files n' d' p.file) p.body) (λ flow. given Undefined (status_of flow)) (statements_longer n n' ln (calls_of files n d p.file) (calls_of files n' d' p.file) (calls_longer files n n' d d' p.file ln ld) (calls_grow files n' d' p.file) p.body) (λ flow. given_grows (status_of flow))
 
 main_grows : (files : List CFile) (n d : ℕ) (o : Option Procedure) → G (run_main files n d o)
 main_grows files n d None = grows_wrong State ℕ Undefined (λ w. tt)
-main_grows files n d (Some p) = grows_bind (statements n (calls_of files n d p.file) p.body) (λ flow. give (status_of flow)) (statements_grow n (calls_of files n d p.file) (calls_grow files n d p.file) p.body) (λ flow. grows_give (status_of flow))
+main_grows files n d (Some p) = grows_bind (statements n (calls_of files n d p.file) p.body) (λ flow. given Undefined (status_of flow)) (statements_grow n (calls_of files n d p.file) (calls_grow files n d p.file) p.body) (λ flow. given_grows (status_of flow))
 
 -- the law for whole programs
 pub meaning_monotone : (files : List CFile) (input : List ℕ) → IsMonotone (CMeaning files input)
-meaning_monotone files input = outcomes_monotone (λ n d. run_main files n d (main_of files)) (begin files input) (written [] []) (λ n n' d d' ln ld. main_longer files n n' d d' ln ld (main_of files)) (λ n d. main_grows files n d (main_of files))
+meaning_monotone files input = outcomes_monotone (λ n d. run_main files n d (main_of files)) (begin files input (main_file (main_of files))) (written [] []) (λ n n' d d' ln ld. main_longer files n n' d d' ln ld (main_of files)) (λ n d. main_grows files n d (main_of files))

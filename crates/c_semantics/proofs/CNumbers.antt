@@ -1,5 +1,5 @@
 -- Numbers of C that fit their types, and tests on them.
-use Rattle.std.proofs.Common.{◌≡◌, ℕ, ◌<◌, Bool, true, false, Some, refl, arith}
+use Rattle.std.proofs.Common.{◌≡◌, ℕ, ◌<◌, ◌≤◌, Bool, true, false, Some, refl, arith}
 use Rattle.std.specs.Prelude.{◌≤ℤ◌}
 use Rattle.std.specs.Ordering.{int_eq}
 use Rattle.std.proofs.Math.IntN.{ℤ, pos}
@@ -17,7 +17,7 @@ fits64 z l g = grind (arith, ints)
 pub fits32 : (z : ℤ) → least32 ≤ℤ z → z ≤ℤ greatest32 → fits W32 z ≡ true
 fits32 z l g = grind (arith, ints)
 
-pub fits64_nat : (n : ℕ) → n < 2147483647 → fits W64 (pos n) ≡ true
+pub fits64_nat : (n : ℕ) → n ≤ 9223372036854775807 → fits W64 (pos n) ≡ true
 fits64_nat n h = grind (arith, ints)
 
 pub fits32_nat : (n : ℕ) → n < 2147483647 → fits W32 (pos n) ≡ true

@@ -1,5 +1,5 @@
 -- Statements of C whose parts are known: what each does in a state.
-use Rattle.std.proofs.Common.{◌≡◌, ℕ, Bool, true, false, List, [], ◌∷◌, map, Option, Some, None, refl, ap, ◌∙◌}
+use Rattle.std.proofs.Common.{◌≡◌, ℕ, ◌-◌, Bool, true, false, List, [], ◌∷◌, length, drop, map, Option, Some, None, refl, ap, ◌∙◌, arith}
 use Rattle.lf_base.specs.declared.name.Name.{Name}
 use Rattle.lf_base.specs.Outcome.{Written, Outcome, Undefined}
 use Rattle.lf_base.specs.Acts.{Going, Stopped, Act, then_do, bind, give, change, given, in_order, within, iterate}
@@ -44,6 +44,13 @@ stop_answer calls callee arguments vs o s w h k = bind_going (arguments_of argum
 
 pub run_answered : (calls : Calls) (callee : Name) (arguments : List CExpr) (vs : List CValue) (r : CValue) (s t : State) (w v : Written) → all_given (map (λ e. (reading e).value s) arguments) ≡ Some vs → calls callee vs s w ≡ Going (Some r) t v → answered calls callee arguments s w ≡ Going r t v
 run_answered calls callee arguments vs r s t w v h k = bind_going (answer calls callee arguments) (given Undefined) s w (Some r) t v (run_answer calls callee arguments vs (Some r) s t w v h k)
+
+-- nothing was declared since, so nothing ends
+pub closed_same : (s t : State) → s.here ≡ t.here → length s.memory ≡ length t.memory → closed s t ≡ t
+closed_same s t e k =
+    let none : length t.memory - length s.memory ≡ 0 = omega arith in
+    ap (λ f. record { here = f; next = t.next; memory = drop (length t.memory - length s.memory) t.memory; around = t.around }) e
+    ∙ ap (λ j. record { here = t.here; next = t.next; memory = drop j t.memory; around = t.around }) none
 
 module _ (n : ℕ) (calls : Calls) where
   pub run_declare_value : (kind : CType) (name : Name) (e : CExpr) (v : CValue) (p : Designated) (s t : State) (w : Written) → (reading e).value (begin_object kind name s) ≡ Some v → newest (begin_object kind name s) ≡ Some p → stored_in p v (begin_object kind name s) ≡ Some t → statement n calls (DeclareValue kind name e) s w ≡ Going None t w
@@ -102,6 +109,10 @@ module _ (n : ℕ) (calls : Calls) where
   run_block body r s t w x h =
       bind_going (within_block body) (λ flow. give (landed (last_label (map (clause n calls) body)) flow)) s w r (closed s t) x
       (within_going (λ z. z) closed (in_order (map (λ c. c.does) (map (clause n calls) body))) s w r t x (ap (λ l. in_order l s w) (all_do body) ∙ h))
+
+  -- a block that declares nothing
+  pub run_plain_block : (body : List CStmt) (r : Option Flow) (s t : State) (w x : Written) → statements n calls body s w ≡ Going r t x → s.here ≡ t.here → length s.memory ≡ length t.memory → block (map (clause n calls) body) s w ≡ Going (landed (last_label (map (clause n calls) body)) r) t x
+  run_plain_block body r s t w x h e k = run_block body r s t w x h ∙ ap (λ u. Going (landed (last_label (map (clause n calls) body)) r) u x) (closed_same s t e k)
 
   pub stop_block : (body : List CStmt) (o : Outcome) (s : State) (w : Written) → statements n calls body s w ≡ Stopped o → block (map (clause n calls) body) s w ≡ Stopped o
   stop_block body o s w h =

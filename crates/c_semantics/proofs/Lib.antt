@@ -6,6 +6,7 @@ pub mod CRuns
 pub mod CStmts
 pub mod JumpShapes
 pub mod LinkingShapes
+pub mod Numbers
 pub mod PlainBodies
 pub mod SmallFiles
 pub mod SmallPrograms

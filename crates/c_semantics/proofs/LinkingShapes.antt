@@ -1,6 +1,6 @@
 -- What each shape is in a scope, by what its parts are.
-use Rattle.std.proofs.Common.{◌≡◌, ℕ, Bool, true, ◌&&◌, List, map}
-use Rattle.std.specs.Prelude.{not, if◌then◌else◌, Some, None}
+use Rattle.std.proofs.Common.{◌≡◌, ℕ, Bool, true, false, ◌&&◌, List, map}
+use Rattle.std.specs.Prelude.{not, ◌==◌, if◌then◌else◌, Some, None}
 use Rattle.lf_base.specs.declared.name.Name.{Name}
 use Rattle.c_nodes.specs.declared.tree.CBinary.{CBinary}
 use Rattle.c_nodes.specs.declared.tree.CType.{CType}
@@ -10,7 +10,8 @@ use Rattle.c_nodes.specs.declared.tree.CExpr.{CExpr}
 use Rattle.c_nodes.specs.declared.tree.CExpr.TheVariants.{Variable, Index, Member, Constant, Greatest, Least, Paren, Negate, Not, Binary, Cast, ToInt, Address, Literal}
 use Rattle.c_nodes.specs.declared.tree.CStmt.{CStmt}
 use Rattle.c_nodes.specs.declared.tree.CStmt.TheVariants.{Declare, DeclareArray, DeclareValue, DeclarePointer, DeclareCall, Assign, AssignCall, Call, Return, ReturnValue, ReturnCall, Goto, Label, Block, While, If, IfElse}
-use Rattle.c_semantics.specs.Linking.{Typed, Object, Number, Array, Leads, is_scalar, is_number, takes_value, leads_to, number_if, element_if, address_of, member_of, typed_layer, Scope, type_of_name, type_of, Signature, call_gives, is_void, is_call, is_value, may_assign, Scoping, kept_if, declared_as, initialized, is_block, scoping_layer, scoping, all_do, calls_layer, calls_only}
+use Rattle.c_semantics.specs.Reserved.{is_reserved}
+use Rattle.c_semantics.specs.Linking.{variable_layer, is_variable, zero_layer, is_zero, is_size, Typed, Object, Number, Array, Leads, is_scalar, is_number, takes_value, leads_to, number_if, element_if, address_of, member_of, typed_layer, Scope, type_of_name, type_of, Signature, call_gives, is_void, is_call, is_value, may_assign, Scoping, kept_if, declared_as, initialized, is_block, scoping_layer, scoping, all_do, calls_layer, calls_only}
 use Rattle.c_nodes.proofs.ExprInduction as expressions
 use Rattle.c_nodes.proofs.StmtInduction as statements
 
@@ -56,10 +57,94 @@ type_of-Address s place = expressions.fold-Address Typed (typed_layer s.structur
 pub type_of-Literal : (s : Scope) (bytes : List ℕ) → type_of s (Literal bytes) ≡ Leads Byte
 type_of-Literal s bytes = expressions.fold-Literal Typed (typed_layer s.structures (type_of_name s)) bytes
 
+pub is_variable-Variable : (name : Name) → is_variable (Variable name) ≡ true
+is_variable-Variable name = expressions.fold-Variable Bool variable_layer name
+
+pub is_variable-Index : (base subscript : CExpr) → is_variable (Index base subscript) ≡ false
+is_variable-Index base subscript = expressions.fold-Index Bool variable_layer base subscript
+
+pub is_variable-Member : (base : CExpr) (name : Name) → is_variable (Member base name) ≡ false
+is_variable-Member base name = expressions.fold-Member Bool variable_layer base name
+
+pub is_variable-Constant : (value : ℕ) → is_variable (Constant value) ≡ false
+is_variable-Constant value = expressions.fold-Constant Bool variable_layer value
+
+pub is_variable-Greatest : is_variable Greatest ≡ false
+is_variable-Greatest = expressions.fold-Greatest Bool variable_layer
+
+pub is_variable-Least : is_variable Least ≡ false
+is_variable-Least = expressions.fold-Least Bool variable_layer
+
+pub is_variable-Paren : (inner : CExpr) → is_variable (Paren inner) ≡ false
+is_variable-Paren inner = expressions.fold-Paren Bool variable_layer inner
+
+pub is_variable-Negate : (operand : CExpr) → is_variable (Negate operand) ≡ false
+is_variable-Negate operand = expressions.fold-Negate Bool variable_layer operand
+
+pub is_variable-Not : (operand : CExpr) → is_variable (Not operand) ≡ false
+is_variable-Not operand = expressions.fold-Not Bool variable_layer operand
+
+pub is_variable-Binary : (operator : CBinary) (left right : CExpr) → is_variable (Binary operator left right) ≡ false
+is_variable-Binary operator left right = expressions.fold-Binary Bool variable_layer operator left right
+
+pub is_variable-Cast : (kind : CType) (operand : CExpr) → is_variable (Cast kind operand) ≡ false
+is_variable-Cast kind operand = expressions.fold-Cast Bool variable_layer kind operand
+
+pub is_variable-ToInt : (operand : CExpr) → is_variable (ToInt operand) ≡ false
+is_variable-ToInt operand = expressions.fold-ToInt Bool variable_layer operand
+
+pub is_variable-Address : (place : CExpr) → is_variable (Address place) ≡ false
+is_variable-Address place = expressions.fold-Address Bool variable_layer place
+
+pub is_variable-Literal : (bytes : List ℕ) → is_variable (Literal bytes) ≡ false
+is_variable-Literal bytes = expressions.fold-Literal Bool variable_layer bytes
+
+pub is_zero-Variable : (name : Name) → is_zero (Variable name) ≡ false
+is_zero-Variable name = expressions.fold-Variable Bool zero_layer name
+
+pub is_zero-Index : (base subscript : CExpr) → is_zero (Index base subscript) ≡ false
+is_zero-Index base subscript = expressions.fold-Index Bool zero_layer base subscript
+
+pub is_zero-Member : (base : CExpr) (name : Name) → is_zero (Member base name) ≡ false
+is_zero-Member base name = expressions.fold-Member Bool zero_layer base name
+
+pub is_zero-Constant : (value : ℕ) → is_zero (Constant value) ≡ (value == 0)
+is_zero-Constant value = expressions.fold-Constant Bool zero_layer value
+
+pub is_zero-Greatest : is_zero Greatest ≡ false
+is_zero-Greatest = expressions.fold-Greatest Bool zero_layer
+
+pub is_zero-Least : is_zero Least ≡ false
+is_zero-Least = expressions.fold-Least Bool zero_layer
+
+pub is_zero-Paren : (inner : CExpr) → is_zero (Paren inner) ≡ false
+is_zero-Paren inner = expressions.fold-Paren Bool zero_layer inner
+
+pub is_zero-Negate : (operand : CExpr) → is_zero (Negate operand) ≡ false
+is_zero-Negate operand = expressions.fold-Negate Bool zero_layer operand
+
+pub is_zero-Not : (operand : CExpr) → is_zero (Not operand) ≡ false
+is_zero-Not operand = expressions.fold-Not Bool zero_layer operand
+
+pub is_zero-Binary : (operator : CBinary) (left right : CExpr) → is_zero (Binary operator left right) ≡ false
+is_zero-Binary operator left right = expressions.fold-Binary Bool zero_layer operator left right
+
+pub is_zero-Cast : (kind : CType) (operand : CExpr) → is_zero (Cast kind operand) ≡ false
+is_zero-Cast kind operand = expressions.fold-Cast Bool zero_layer kind operand
+
+pub is_zero-ToInt : (operand : CExpr) → is_zero (ToInt operand) ≡ false
+is_zero-ToInt operand = expressions.fold-ToInt Bool zero_layer operand
+
+pub is_zero-Address : (place : CExpr) → is_zero (Address place) ≡ false
+is_zero-Address place = expressions.fold-Address Bool zero_layer place
+
+pub is_zero-Literal : (bytes : List ℕ) → is_zero (Literal bytes) ≡ false
+is_zero-Literal bytes = expressions.fold-Literal Bool zero_layer bytes
+
 pub scoping-Declare : (known : List Signature) (gives : CResult) (kind : CType) (name : Name) → scoping known gives (Declare kind name) ≡ record { behind = λ s. declared_as kind name (Object kind) s }
 scoping-Declare known gives kind name = statements.fold-Declare Scoping (scoping_layer known gives) kind name
 
-pub scoping-DeclareArray : (known : List Signature) (gives : CResult) (kind : CType) (name : Name) (size : CExpr) → scoping known gives (DeclareArray kind name size) ≡ record { behind = λ s. if is_number (type_of s size) then declared_as kind name (Array kind) s else None }
+pub scoping-DeclareArray : (known : List Signature) (gives : CResult) (kind : CType) (name : Name) (size : CExpr) → scoping known gives (DeclareArray kind name size) ≡ record { behind = λ s. if is_size s size then declared_as kind name (Array kind) s else None }
 scoping-DeclareArray known gives kind name size = statements.fold-DeclareArray Scoping (scoping_layer known gives) kind name size
 
 pub scoping-DeclareValue : (known : List Signature) (gives : CResult) (kind : CType) (name : Name) (value : CExpr) → scoping known gives (DeclareValue kind name value) ≡ record { behind = λ s. initialized (declared_as kind name (Object kind) s) (λ i. takes_value kind (type_of i value)) }
@@ -74,7 +159,7 @@ scoping-DeclareCall known gives kind name callee arguments = statements.fold-Dec
 pub scoping-Assign : (known : List Signature) (gives : CResult) (target value : CExpr) → scoping known gives (Assign target value) ≡ record { behind = λ s. kept_if (may_assign (type_of s target) (type_of s value)) s }
 scoping-Assign known gives target value = statements.fold-Assign Scoping (scoping_layer known gives) target value
 
-pub scoping-AssignCall : (known : List Signature) (gives : CResult) (target : CExpr) (callee : Name) (arguments : List CExpr) → scoping known gives (AssignCall target callee arguments) ≡ record { behind = λ s. kept_if (may_assign (type_of s target) Number && is_value (call_gives known s callee arguments)) s }
+pub scoping-AssignCall : (known : List Signature) (gives : CResult) (target : CExpr) (callee : Name) (arguments : List CExpr) → scoping known gives (AssignCall target callee arguments) ≡ record { behind = λ s. kept_if (is_variable target && may_assign (type_of s target) Number && is_value (call_gives known s callee arguments)) s }
 scoping-AssignCall known gives target callee arguments = statements.fold-AssignCall Scoping (scoping_layer known gives) target callee arguments
 
 pub scoping-Call : (known : List Signature) (gives : CResult) (callee : Name) (arguments : List CExpr) → scoping known gives (Call callee arguments) ≡ record { behind = λ s. kept_if (is_call (call_gives known s callee arguments)) s }
@@ -92,7 +177,7 @@ scoping-ReturnCall known gives callee arguments = statements.fold-ReturnCall Sco
 pub scoping-Goto : (known : List Signature) (gives : CResult) (label : Name) → scoping known gives (Goto label) ≡ record { behind = Some }
 scoping-Goto known gives label = statements.fold-Goto Scoping (scoping_layer known gives) label
 
-pub scoping-Label : (known : List Signature) (gives : CResult) (name : Name) → scoping known gives (Label name) ≡ record { behind = Some }
+pub scoping-Label : (known : List Signature) (gives : CResult) (name : Name) → scoping known gives (Label name) ≡ record { behind = kept_if (not (is_reserved name)) }
 scoping-Label known gives name = statements.fold-Label Scoping (scoping_layer known gives) name
 
 pub scoping-Block : (known : List Signature) (gives : CResult) (body : List CStmt) → scoping known gives (Block body) ≡ record { behind = λ s. kept_if (is_block (map (scoping known gives) body) s) s }
@@ -107,7 +192,7 @@ scoping-If known gives test then_body = statements.fold-If Scoping (scoping_laye
 pub scoping-IfElse : (known : List Signature) (gives : CResult) (test : CExpr) (then_body else_body : List CStmt) → scoping known gives (IfElse test then_body else_body) ≡ record { behind = λ s. kept_if (is_number (type_of s test) && is_block (map (scoping known gives) then_body) s && is_block (map (scoping known gives) else_body) s) s }
 scoping-IfElse known gives test then_body else_body = statements.fold-IfElse Scoping (scoping_layer known gives) test then_body else_body
 
-pub ruleset links = (type_of-Variable, type_of-Index, type_of-Member, type_of-Constant, type_of-Greatest, type_of-Least, type_of-Paren, type_of-Negate, type_of-Not, type_of-Binary, type_of-Cast, type_of-ToInt, type_of-Address, type_of-Literal, scoping-Declare, scoping-DeclareArray, scoping-DeclareValue, scoping-DeclarePointer, scoping-DeclareCall, scoping-Assign, scoping-AssignCall, scoping-Call, scoping-Return, scoping-ReturnValue, scoping-ReturnCall, scoping-Goto, scoping-Label, scoping-Block, scoping-While, scoping-If, scoping-IfElse)
+pub ruleset links = (is_variable-Variable, is_variable-Index, is_variable-Member, is_variable-Constant, is_variable-Greatest, is_variable-Least, is_variable-Paren, is_variable-Negate, is_variable-Not, is_variable-Binary, is_variable-Cast, is_variable-ToInt, is_variable-Address, is_variable-Literal, is_zero-Variable, is_zero-Index, is_zero-Member, is_zero-Constant, is_zero-Greatest, is_zero-Least, is_zero-Paren, is_zero-Negate, is_zero-Not, is_zero-Binary, is_zero-Cast, is_zero-ToInt, is_zero-Address, is_zero-Literal, type_of-Variable, type_of-Index, type_of-Member, type_of-Constant, type_of-Greatest, type_of-Least, type_of-Paren, type_of-Negate, type_of-Not, type_of-Binary, type_of-Cast, type_of-ToInt, type_of-Address, type_of-Literal, scoping-Declare, scoping-DeclareArray, scoping-DeclareValue, scoping-DeclarePointer, scoping-DeclareCall, scoping-Assign, scoping-AssignCall, scoping-Call, scoping-Return, scoping-ReturnValue, scoping-ReturnCall, scoping-Goto, scoping-Label, scoping-Block, scoping-While, scoping-If, scoping-IfElse)
 
 pub calls_only-Declare : (test : List ℕ → Bool) (kind : CType) (name : Name) → calls_only test (Declare kind name) ≡ true
 calls_only-Declare test kind name = statements.fold-Declare Bool (calls_layer test) kind name

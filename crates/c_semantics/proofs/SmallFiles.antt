@@ -1,8 +1,8 @@
 -- What the small files do, computed statement by statement.
 use Rattle.std.proofs.Common.{◌≡◌, ℕ, false, List, [], ◌∷◌, Some, None, codes, map, refl, ap, ◌∙◌}
 use Rattle.std.proofs.Math.IntN.{pos}
-use Rattle.lf_base.specs.Outcome.{written}
-use Rattle.lf_base.specs.Acts.{Going, outcome_of, bind, give, then_do, in_order, within}
+use Rattle.lf_base.specs.Outcome.{Undefined, written}
+use Rattle.lf_base.specs.Acts.{Going, outcome_of, bind, given, then_do, in_order, within}
 use Rattle.lf_base.proofs.Runs.{order_next}
 use Rattle.c_nodes.specs.declared.tree.CFile.{CFile}
 use Rattle.c_nodes.specs.declared.tree.CType.TheVariants.{Int64}
@@ -12,8 +12,8 @@ use Rattle.c_nodes.specs.declared.tree.CStmt.TheVariants.{Declare, Call}
 use Rattle.c_nodes.specs.ShownFile.{ends}
 use Rattle.c_semantics.specs.CValues.{W32, Local, Number, Pointer}
 use Rattle.c_semantics.specs.CState.{Cells, State}
-use Rattle.c_semantics.specs.CMeaning.{CMeaning, run_main, statement, statements, call, calls_of, all_items, around_all, begin, status_of, Calls, Returned}
-use Rattle.c_semantics.specs.SmallFiles.{Writes, IsUndefined, IsCut, EndsWith, file, put, i, turns, jumps, structures, wraps, stops_early, zeros, shares, sets, forever, leaves, overflow, int_overflow, by_zero, least_by_minus_one, int32_cast, int_cast, int32_store, unset_read, unset_copy, outside, pointer_outside, outside_member, no_elements, literal_write}
+use Rattle.c_semantics.specs.CMeaning.{CMeaning, run_main, statement, statements, called, call, calls_of, around_all, begin, status_of, Calls, Returned}
+use Rattle.c_semantics.specs.SmallFiles.{Writes, IsUndefined, IsCut, EndsWith, file, put, i, turns, jumps, structures, wraps, stops_early, zeros, shares, sets, forever, leaves, overflow, int_overflow, by_zero, least_by_minus_one, int32_cast, int_cast, int32_store, unset_read, unset_copy, outside, pointer_outside, outside_member, no_elements, literal_write, returns_number, returns_nothing, returns_too_much, pointer_in_block, pointer_after_block, pointer_after_call, sets_pointer, unset_pointer, own_object, keeps_object}
 use Rattle.c_semantics.proofs.CExprs.{exprs}
 use Rattle.c_semantics.proofs.CStmts.{deeds, runs-Declare}
 use Rattle.c_semantics.proofs.CRuns.{run_call}
@@ -44,23 +44,25 @@ both = file shares ∷ file sets ∷ []
 
 abbrev before : List ℕ → State
 before input = record {
-  here = record { next = 1; names = record { name = codes "i"; id = 0; slot = Cells Int64 false (None ∷ []) } ∷ [] };
-  callers = [];
-  around = around_all (all_items both) input;
+  here = record { file = 0; names = record { name = codes "i"; number = 0 } ∷ [] };
+  next = 1;
+  memory = record { number = 0; slot = Cells Int64 false (None ∷ []) } ∷ [];
+  around = around_all both input;
 }
 
 abbrev after : List ℕ → State
 after input = record {
-  here = record { next = 1; names = record { name = codes "i"; id = 0; slot = Cells Int64 false (Some (pos 66) ∷ []) } ∷ [] };
-  callers = [];
-  around = record { layouts = []; globals = record { name = codes "n"; slot = Cells Int64 false (Some (pos 65) ∷ []) } ∷ []; input = input };
+  here = record { file = 0; names = record { name = codes "i"; number = 0 } ∷ [] };
+  next = 2;
+  memory = record { number = 0; slot = Cells Int64 false (Some (pos 66) ∷ []) } ∷ [];
+  around = record { layouts = []; globals = record { file = None; name = codes "n"; slot = Cells Int64 false (Some (pos 65) ∷ []) } ∷ []; input = input };
 }
 
 abbrev calls : Calls
 calls = calls_of both 10 2 0
 
-called : (input : List ℕ) → calls (codes "f") (Pointer (Local 0 0) 0 ∷ []) (before input) (written [] []) ≡ Going None (after input) (written [] [])
-called input = simp (deeds, exprs, opened, within, call) refl
+function_called : (input : List ℕ) → calls (codes "f") (Pointer (Local 0) 0 ∷ []) (before input) (written [] []) ≡ Going None (after input) (written [] [])
+function_called input = simp (deeds, exprs, opened, within, call, called) refl
 
 abbrev shows : List CStmt
 shows = put (Variable (codes "n")) ∷ put i ∷ ends ∷ []
@@ -71,14 +73,14 @@ shown input = simp (deeds, exprs, opened) refl
 abbrev then_f : List CStmt
 then_f = Call (codes "f") (Address i ∷ []) ∷ shows
 
-shared_runs : (input : List ℕ) → statements 10 calls (Declare Int64 (codes "i") ∷ then_f) (begin both input) (written [] []) ≡ Going (Some (Returned (Some (Number W32 (pos 0))))) (after input) (written (codes "AB") [])
+shared_runs : (input : List ℕ) → statements 10 calls (Declare Int64 (codes "i") ∷ then_f) (begin both input 0) (written [] []) ≡ Going (Some (Returned (Some (Number W32 (pos 0))))) (after input) (written (codes "AB") [])
 shared_runs input =
-    order_next (statement 10 calls (Declare Int64 (codes "i"))) (map (statement 10 calls) then_f) (begin both input) (written [] []) (before input) (written [] []) (runs-Declare 10 calls Int64 (codes "i") (begin both input) (written [] []))
-    ∙ order_next (statement 10 calls (Call (codes "f") (Address i ∷ []))) (map (statement 10 calls) shows) (before input) (written [] []) (after input) (written [] []) (run_call 10 calls (codes "f") (Address i ∷ []) (Pointer (Local 0 0) 0 ∷ []) None (before input) (after input) (written [] []) (written [] []) (simp exprs refl) (called input))
+    order_next (statement 10 calls (Declare Int64 (codes "i"))) (map (statement 10 calls) then_f) (begin both input 0) (written [] []) (before input) (written [] []) (runs-Declare 10 calls Int64 (codes "i") (begin both input 0) (written [] []))
+    ∙ order_next (statement 10 calls (Call (codes "f") (Address i ∷ []))) (map (statement 10 calls) shows) (before input) (written [] []) (after input) (written [] []) (run_call 10 calls (codes "f") (Address i ∷ []) (Pointer (Local 0) 0 ∷ []) None (before input) (after input) (written [] []) (written [] []) (simp exprs refl) (function_called input))
     ∙ shown input
 
 pub shared_is : Writes (file shares ∷ file sets ∷ []) (codes "AB")
-shared_is input = ap (λ x. outcome_of (then_do x (λ flow. give (status_of flow)))) (shared_runs input)
+shared_is input = ap (λ x. outcome_of (then_do x (λ flow. given Undefined (status_of flow)))) (shared_runs input)
 
 pub leaves_is : EndsWith leaves 7
 leaves_is input = simp (deeds, exprs, opened) refl
@@ -127,3 +129,30 @@ no_elements_is input = simp (deeds, exprs, opened) refl
 
 pub literal_write_is : IsUndefined literal_write
 literal_write_is input = simp (deeds, exprs, opened) refl
+
+pub pointer_is : Writes (file pointer_in_block ∷ []) (codes "A")
+pointer_is input = simp (deeds, exprs, opened) refl
+
+pub static_pointer_is : Writes (file sets_pointer ∷ []) (codes "A")
+static_pointer_is input = simp (deeds, exprs, opened) refl
+
+pub static_object_is : Writes (file keeps_object ∷ file own_object ∷ []) (codes "A")
+static_object_is input = simp (deeds, exprs, opened, within, call, called) refl
+
+pub number_is : EndsWith returns_number 7
+number_is input = simp (deeds, exprs, opened) refl
+
+pub nothing_is : EndsWith returns_nothing 0
+nothing_is input = refl
+
+pub after_block_is : IsUndefined pointer_after_block
+after_block_is input = simp (deeds, exprs, opened) refl
+
+pub after_call_is : IsUndefined pointer_after_call
+after_call_is input = simp (deeds, exprs, opened, within, call, called) refl
+
+pub unset_pointer_is : IsUndefined unset_pointer
+unset_pointer_is input = simp (deeds, exprs, opened) refl
+
+pub too_much_is : IsUndefined returns_too_much
+too_much_is input = simp (deeds, exprs, opened) refl

@@ -23,13 +23,13 @@ use Rattle.c_nodes.specs.declared.tree.CItem.{CItem}
 use Rattle.c_nodes.specs.declared.tree.CItem.TheVariants.{Function}
 use Rattle.c_nodes.specs.declared.tree.CFile.{CFile}
 use Rattle.c_semantics.specs.CValues.{W32, W64, Base, Local, Text, Outside, Inside, CValue, Number, Pointer, Errors, Structure, greatest64, least64, is_zero, binary, both, either, negated, denied, constant, held_as, cast_to, to_int}
-use Rattle.c_semantics.specs.CState.{Slot, Cells, Records, Leads, Declared, Frame, Around, State, no_names, find_name, global_of, layouts_of, globals_of, unset, object_at, read_at, write_at, copy_at, put_object, declare, closed}
+use Rattle.c_semantics.specs.CState.{Slot, Cells, Records, Leads, Declared, Around, State, find_name, layouts_of, all_globals, unset, object_at, read_at, write_at, copy_at, put_object, declare, closed}
 
 -- what an expression designates, if it designates an object: an element, a whole array, or a pointer
 pub data Designated : Type 0 where
   Element : (base : Base) (offset : ℕ) → Designated
   Whole : (base : Base) → Designated
-  Variable : (id : ℕ) (to : Option (Base × ℕ)) → Designated
+  Variable : (base : Base) (to : Option (Base × ℕ)) → Designated
 
 -- an expression, which changes nothing: its value and what it designates
 pub record Reading : Type 0 where
@@ -45,32 +45,36 @@ abbrev pub by_content : Base → Option Slot → Option Designated
 by_content base None = None
 by_content base (Some (Cells kind is_array cells)) = Some (whole_or_element base is_array)
 by_content base (Some (Records tag is_array records)) = Some (whole_or_element base is_array)
-by_content base (Some (Leads to)) = None
+by_content base (Some (Leads to)) = Some (Variable base to)
 
-abbrev pub by_slot : ℕ → Slot → Option Designated
-by_slot id (Cells kind is_array cells) = Some (whole_or_element (Local 0 id) is_array)
-by_slot id (Records tag is_array records) = Some (whole_or_element (Local 0 id) is_array)
-by_slot id (Leads to) = Some (Variable id to)
+abbrev pub designated : Base → State → Option Designated
+designated base s = by_content base (object_at base s)
 
-abbrev pub designated : Option Declared → Option Designated
-designated None = None
-designated (Some d) = by_slot d.id d.slot
+abbrev pub first_designated : Option Designated → Option Designated → Option Designated
+first_designated None d = d
+first_designated (Some d) e = Some d
 
--- what a name designates: what the function declares under it, else an object outside functions (6.2.1, 4)
+-- What a name designates: what the function declares under it, else a static object of its file, else an object that
+-- all files share (6.2.1, 4; 6.2.2).
 abbrev pub named : List ℕ → Option Declared → State → Option Designated
-named name (Some d) s = designated (Some d)
-named name None s = by_content (Outside name) (global_of name s.around.globals)
+named name (Some d) s = designated (Local d.number) s
+named name None s = first_designated (designated (Outside (Some s.here.file) name) s) (designated (Outside None name) s)
 
-abbrev pub pointed : Option (Base × ℕ) → Option CValue
-pointed None = None
-pointed (Some p) = Some (Pointer p.0 p.1)
+-- A pointer is a value while the object lives into which it leads (6.2.4, 2).
+abbrev pub while_alive : Option Slot → CValue → Option CValue
+while_alive None v = None
+while_alive (Some slot) v = Some v
+
+abbrev pub pointed : Option (Base × ℕ) → State → Option CValue
+pointed None s = None
+pointed (Some p) s = while_alive (object_at p.0 s) (Pointer p.0 p.1)
 
 -- the value of what is designated; an array is a pointer to its first element (6.3.2.1, 3)
 abbrev pub value_at : Option Designated → State → Option CValue
 value_at None s = None
 value_at (Some (Element base offset)) s = read_at base offset s
 value_at (Some (Whole base)) s = Some (Pointer base 0)
-value_at (Some (Variable id to)) s = pointed to
+value_at (Some (Variable base to)) s = pointed to s
 
 abbrev pub natural : Base → ℕ → ℤ → Option Designated
 natural base offset (pos n) = Some (Element base (offset + n))
@@ -107,7 +111,7 @@ at_place place = record { value = λ s. value_at (place s) s; place = place }
 
 abbrev pub variable_value : List ℕ → Option Declared → State → Option CValue
 variable_value name None s = if bytes_eq name (codes "stderr") then Some Errors else value_at (named name None s) s
-variable_value name (Some d) s = value_at (designated (Some d)) s
+variable_value name (Some d) s = value_at (named name (Some d) s) s
 
 abbrev pub binary_value : CBinary → Reading → Reading → State → Option CValue
 binary_value And a b s = both (a.value s) (b.value s)
@@ -161,7 +165,7 @@ become o = bind (given Undefined o) (λ s. change (λ _. s))
 abbrev pub stored_in : Designated → CValue → State → Option State
 stored_in (Element base offset) (Number w z) s = write_at base offset z s
 stored_in (Element base offset) (Structure tag cells) s = copy_at base offset tag cells s
-stored_in (Variable id to) (Pointer base offset) s = Some (put_object (Local 0 id) (Leads (Some (base, offset))) s)
+stored_in (Variable object to) (Pointer base offset) s = Some (put_object object (Leads (Some (base, offset))) s)
 stored_in p v s = None
 
 abbrev pub store : Designated → CValue → Act State (Unit {0})
@@ -199,13 +203,13 @@ begin_object kind name s = declare name (unset kind false 1 s) s
 abbrev pub begin_array : CType → List ℕ → CValue → Act State (Unit {0})
 begin_array kind name v = bind (bind (look (room kind v)) (given Undefined)) (λ slot. change (declare name slot))
 
-abbrev pub by_names : List Declared → Option Designated
-by_names [] = None
-by_names (d ∷ ds) = designated (Some d)
+abbrev pub by_names : List Declared → State → Option Designated
+by_names [] s = None
+by_names (d ∷ ds) s = designated (Local d.number) s
 
--- the place of the name that was declared last
+-- the object of the name that was declared last
 abbrev pub newest : State → Option Designated
-newest s = by_names s.here.names
+newest s = by_names s.here.names s
 
 -- the declared object gets a value
 abbrev pub initialize : CValue → Act State (Unit {0})
@@ -289,12 +293,6 @@ pub record Procedure : Type 0 where
   pub parameters : List CParameter
   pub body : List CStmt
 
-abbrev pub raised : Base → Base
-raised (Local up id) = Local (suc up) id
-raised (Text bytes) = Text bytes
-raised (Outside name) = Outside name
-raised (Inside whole offset member) = Inside (raised whole) offset member
-
 abbrev pub holding : CType → Option ℤ → Option Slot
 holding kind None = None
 holding kind (Some z) = Some (Cells kind false (Some z ∷ []))
@@ -302,36 +300,30 @@ holding kind (Some z) = Some (Cells kind false (Some z ∷ []))
 -- what a parameter stands for: the argument, as by assignment (6.5.2.2, 7; 6.9.1, 10)
 abbrev pub parameter_slot : CParameter → CValue → Option Slot
 parameter_slot (parameter.Value kind name) (Number w z) = holding kind (held_as kind z)
-parameter_slot (parameter.Pointer kind name) (Pointer base offset) = Some (Leads (Some (raised base, offset)))
+parameter_slot (parameter.Pointer kind name) (Pointer base offset) = Some (Leads (Some (base, offset)))
 parameter_slot p v = None
 
 abbrev pub parameter_name : CParameter → List ℕ
 parameter_name (parameter.Value kind name) = name
 parameter_name (parameter.Pointer kind name) = name
 
-abbrev pub bound : List ℕ → Option Slot → Frame → Option Frame
-bound name None frame = None
-bound name (Some slot) frame = Some (record { next = frame.next + 1; names = record { name = name; id = frame.next; slot = slot } ∷ frame.names })
+abbrev pub bound : List ℕ → Option Slot → State → Option State
+bound name None s = None
+bound name (Some slot) s = Some (declare name slot s)
 
 -- the parameters with their arguments, one for each
-abbrev pub bound_all : List CParameter → List CValue → Option Frame → Option Frame
+abbrev pub bound_all : List CParameter → List CValue → Option State → Option State
 bound_all ps vs None = None
-bound_all [] [] (Some frame) = Some frame
-bound_all (p ∷ ps) (v ∷ vs) (Some frame) = bound_all ps vs (bound (parameter_name p) (parameter_slot p v) frame)
-bound_all ps vs (Some frame) = None
+bound_all [] [] (Some s) = Some s
+bound_all (p ∷ ps) (v ∷ vs) (Some s) = bound_all ps vs (bound (parameter_name p) (parameter_slot p v) s)
+bound_all ps vs (Some s) = None
 
--- the function runs and its caller waits
-abbrev pub entered : Option Frame → State → Option State
-entered None s = None
-entered (Some frame) s = Some (record { here = frame; callers = s.here ∷ s.callers; around = s.around })
+-- the function runs, and no name of its caller is one of its own
+abbrev pub started : ℕ → State → State
+started file s = record { here = record { file = file; names = [] }; next = s.next; memory = s.memory; around = s.around }
 
-abbrev pub by_callers : List Frame → Frame → Around → State
-by_callers [] frame around = record { here = frame; callers = []; around = around }
-by_callers (caller ∷ callers) frame around = record { here = caller; callers = callers; around = around }
-
--- the caller goes on
-abbrev pub left : State → State
-left s = by_callers s.callers s.here s.around
+abbrev pub entering : Procedure → List CValue → State → Option State
+entering p vs s = bound_all p.parameters vs (Some (started p.file s))
 
 abbrev pub returned_number : CResult → CValue → Option CValue
 returned_number result.Void v = None
@@ -347,8 +339,11 @@ returned r (Some (Jumped label)) = None
 returned r (Some (Returned None)) = None
 returned r (Some (Returned (Some v))) = returned_number r v
 
+abbrev pub called : ℕ → Calls → Procedure → State → Act State (Option CValue)
+called n calls p inner = within (λ s. inner) closed (bind (statements n calls p.body) (λ flow. give (returned p.result flow)))
+
 abbrev pub call : ℕ → Calls → Procedure → List CValue → Act State (Option CValue)
-call n calls p vs = bind (bind (look (entered (bound_all p.parameters vs (Some no_names)))) become) (λ u. within (λ s. s) (λ before after. left after) (bind (statements n calls p.body) (λ flow. give (returned p.result flow))))
+call n calls p vs = bind (bind (look (entering p vs)) (given Undefined)) (called n calls p)
 
 -- a static function belongs to its file (6.2.2, 3)
 abbrev pub of_linkage : Bool → Bool → Procedure → Option Procedure → Option Procedure
@@ -390,7 +385,7 @@ by_input [] = []
 by_input (b ∷ bs) = bs
 
 abbrev pub without_first : State → State
-without_first s = record { here = s.here; callers = s.callers; around = record { layouts = s.around.layouts; globals = s.around.globals; input = by_input s.around.input } }
+without_first s = record { here = s.here; next = s.next; memory = s.memory; around = record { layouts = s.around.layouts; globals = s.around.globals; input = by_input s.around.input } }
 
 abbrev pub on_int : Option CValue → (ℤ → Act State (Option CValue)) → Act State (Option CValue)
 on_int (Some (Number w z)) go = go z
@@ -433,30 +428,42 @@ abbrev pub calls_of : List CFile → ℕ → ℕ → ℕ → Calls
 calls_of files n zero file = library_or (λ name vs. cut)
 calls_of files n (suc d) file = library_or (λ name vs. on_procedure (function_of files file name) (λ p. call n (calls_of files n d p.file) p vs))
 
--- Behind the end of its body `main` gives 0.
-abbrev pub status_of : Option Flow → ℕ
-status_of (Some (Returned (Some (Number w z)))) = byte_of z
-status_of flow = 0
+abbrev pub status_by : Option CValue → Option ℕ
+status_by (Some (Number w z)) = Some (byte_of z)
+status_by v = None
+
+-- What `main` gives is converted to `int`, and counts modulo 256; behind the end of its body it gives 0 (5.1.2.2.3;
+-- 6.8.6.4, 3).
+abbrev pub status_of : Option Flow → Option ℕ
+status_of None = Some 0
+status_of (Some (Jumped label)) = Some 0
+status_of (Some (Returned None)) = None
+status_of (Some (Returned (Some v))) = status_by (to_int (Some v))
 
 -- the items of all files
 abbrev pub all_items : List CFile → List CItem
 all_items = flat_map (λ file. file.items)
 
--- An object outside functions is one in the whole program, whichever files declare it (6.2.2, 2), and begins as
--- zero.
-abbrev pub around_all : List CItem → List ℕ → Around
-around_all items input = record { layouts = layouts_of items []; globals = globals_of (layouts_of items []) items; input = input }
+-- An object outside functions is one in the whole program, whichever files declare it, unless it is static (6.2.2, 2
+-- and 3), and begins as zero.
+abbrev pub around_all : List CFile → List ℕ → Around
+around_all files input = record { layouts = layouts_of (all_items files) []; globals = all_globals (layouts_of (all_items files) []) 0 files; input = input }
 
-abbrev pub begin : List CFile → List ℕ → State
-begin files input = record { here = no_names; callers = []; around = around_all (all_items files) input }
+-- before the functions of a file run
+abbrev pub begin : List CFile → List ℕ → ℕ → State
+begin files input file = record { here = record { file = file; names = [] }; next = 0; memory = []; around = around_all files input }
 
 abbrev pub main_of : List CFile → Option Procedure
 main_of files = external_in (codes "main") 0 files
 
+abbrev pub main_file : Option Procedure → ℕ
+main_file None = 0
+main_file (Some p) = p.file
+
 abbrev pub run_main : List CFile → ℕ → ℕ → Option Procedure → Act State ℕ
 run_main files n d None = wrong Undefined
-run_main files n d (Some p) = bind (statements n (calls_of files n d p.file) p.body) (λ flow. give (status_of flow))
+run_main files n d (Some p) = bind (statements n (calls_of files n d p.file) p.body) (λ flow. given Undefined (status_of flow))
 
 -- The program of these files from its `main`, whose end is the end of the program (5.1.2.2.3).
 abbrev pub CMeaning : List CFile → Meaning
-CMeaning files input n d = outcome_of (run_main files n d (main_of files) (begin files input) (written [] []))
+CMeaning files input n d = outcome_of (run_main files n d (main_of files) (begin files input (main_file (main_of files))) (written [] []))

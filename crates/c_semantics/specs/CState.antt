@@ -10,7 +10,8 @@ use Rattle.c_nodes.specs.declared.tree.CType.TheVariants as type
 use Rattle.c_nodes.specs.declared.tree.CObject.{CObject}
 use Rattle.c_nodes.specs.declared.tree.CObject.TheVariants.{Single, Array}
 use Rattle.c_nodes.specs.declared.tree.CItem.{CItem}
-use Rattle.c_nodes.specs.declared.tree.CItem.TheVariants.{Struct, Object}
+use Rattle.c_nodes.specs.declared.tree.CItem.TheVariants.{Struct, Object, StaticObject, StaticPointer}
+use Rattle.c_nodes.specs.declared.tree.CFile.{CFile}
 use Rattle.c_semantics.specs.CValues.{Base, Local, Text, Outside, Inside, CValue, Structure, held_as, promoted}
 
 -- what a name stands for: an object of one or more elements, each a number if it was set; one of structures, each
@@ -35,20 +36,25 @@ pub record Layout : Type 0 where
   pub fields : List Field
   pub size : ℕ
 
--- a declared name with the number of what it stands for, which no other of its function has
+-- a declared name, with the number of its object
 pub record Declared : Type 0 where
   pub name : List ℕ
-  pub id : ℕ
+  pub number : ℕ
+
+-- the content of the object that has this number
+pub record Stored : Type 0 where
+  pub number : ℕ
   pub slot : Slot
 
--- an object outside functions
+-- an object outside functions; `file` is its file where it is static
 pub record Global : Type 0 where
+  pub file : Option ℕ
   pub name : List ℕ
   pub slot : Slot
 
--- the names that are declared in a function that is active, the newest in front, and the next number
+-- the function that runs: its file, and the names that are declared in it, the newest in front
 pub record Frame : Type 0 where
-  pub next : ℕ
+  pub file : ℕ
   pub names : List Declared
 
 -- what all functions share: the structures, the objects outside functions, and the input that is left
@@ -57,26 +63,33 @@ pub record Around : Type 0 where
   pub globals : List Global
   pub input : List ℕ
 
--- the function that runs, those that wait for it, the last call in front, and what is around them
+-- The function that runs; the number of the next object; the objects that live, the newest in front; and what is
+-- around all functions. A number is given once, so a pointer means the same object wherever it is handed.
 pub record State : Type 0 where
   pub here : Frame
-  pub callers : List Frame
+  pub next : ℕ
+  pub memory : List Stored
   pub around : Around
-
-abbrev pub no_names : Frame
-no_names = record { next = 0; names = [] }
 
 abbrev pub find_name : List ℕ → List Declared → Option Declared
 find_name name [] = None
 find_name name (d ∷ ds) = if bytes_eq d.name name then Some d else find_name name ds
 
-abbrev pub slot_of : ℕ → List Declared → Option Slot
-slot_of id [] = None
-slot_of id (d ∷ ds) = if d.id == id then Some d.slot else slot_of id ds
+abbrev pub slot_of : ℕ → List Stored → Option Slot
+slot_of number [] = None
+slot_of number (o ∷ os) = if o.number == number then Some o.slot else slot_of number os
 
-abbrev pub global_of : List ℕ → List Global → Option Slot
-global_of name [] = None
-global_of name (g ∷ gs) = if bytes_eq g.name name then Some g.slot else global_of name gs
+abbrev pub same_file : Option ℕ → Option ℕ → Bool
+same_file None None = true
+same_file (Some a) (Some b) = a == b
+same_file a b = false
+
+abbrev pub is_global : Option ℕ → List ℕ → Global → Bool
+is_global file name g = bytes_eq g.name name && same_file g.file file
+
+abbrev pub global_of : Option ℕ → List ℕ → List Global → Option Slot
+global_of file name [] = None
+global_of file name (g ∷ gs) = if is_global file name g then Some g.slot else global_of file name gs
 
 abbrev pub nth : {A : Type 0} → ℕ → List A → Option A
 nth n [] = None
@@ -87,15 +100,6 @@ abbrev pub set_nth : {A : Type 0} → ℕ → A → List A → List A
 set_nth n x [] = []
 set_nth zero x (y ∷ ys) = x ∷ ys
 set_nth (suc n) x (y ∷ ys) = y ∷ set_nth n x ys
-
-abbrev pub change_nth : {A : Type 0} → ℕ → (A → A) → List A → List A
-change_nth n f [] = []
-change_nth zero f (y ∷ ys) = f y ∷ ys
-change_nth (suc n) f (y ∷ ys) = y ∷ change_nth n f ys
-
-abbrev pub frame_slot : ℕ → Option Frame → Option Slot
-frame_slot id None = None
-frame_slot id (Some frame) = slot_of id frame.names
 
 -- the members of a structure
 abbrev pub fields_of : List ℕ → List Layout → List Field
@@ -146,15 +150,23 @@ filled_with z layouts (type.Struct tag) is_array n = Records tag is_array (repli
 filled_with z layouts kind is_array n = Cells kind is_array (replicate n z)
 
 -- An object outside functions begins as zero (6.7.8, 10).
-abbrev pub as_zero : List Layout → CObject → Global
-as_zero layouts (Single kind name) = record { name = name; slot = filled_with (Some (pos 0)) layouts kind false 1 }
-as_zero layouts (Array kind name n) = record { name = name; slot = filled_with (Some (pos 0)) layouts kind true n }
+abbrev pub as_zero : List Layout → Option ℕ → CObject → Global
+as_zero layouts file (Single kind name) = record { file = file; name = name; slot = filled_with (Some (pos 0)) layouts kind false 1 }
+as_zero layouts file (Array kind name n) = record { file = file; name = name; slot = filled_with (Some (pos 0)) layouts kind true n }
 
--- the objects that items define; `extern` declares one that is defined elsewhere (6.2.2, 6.9.2)
-abbrev pub globals_of : List Layout → List CItem → List Global
-globals_of layouts [] = []
-globals_of layouts (Object false object ∷ items) = as_zero layouts object ∷ globals_of layouts items
-globals_of layouts (item ∷ items) = globals_of layouts items
+-- The objects that the items of a file define; `extern` declares one that is defined elsewhere (6.2.2, 6.9.2). A
+-- static pointer begins as one to no object.
+abbrev pub globals_of : List Layout → ℕ → List CItem → List Global
+globals_of layouts file [] = []
+globals_of layouts file (Object false object ∷ items) = as_zero layouts None object ∷ globals_of layouts file items
+globals_of layouts file (StaticObject kind name ∷ items) = as_zero layouts (Some file) (Single kind name) ∷ globals_of layouts file items
+globals_of layouts file (StaticPointer kind name ∷ items) = record { file = Some file; name = name; slot = Leads None } ∷ globals_of layouts file items
+globals_of layouts file (item ∷ items) = globals_of layouts file items
+
+-- the objects that files define, the first of which has this number
+abbrev pub all_globals : List Layout → ℕ → List CFile → List Global
+all_globals layouts file [] = []
+all_globals layouts file (f ∷ fs) = globals_of layouts file f.items ++ all_globals layouts (suc file) fs
 
 -- An object in a block begins with no number set (6.7.8, 10).
 abbrev pub unset : CType → Bool → ℕ → State → Slot
@@ -188,10 +200,9 @@ member_of layouts offset name slot = None
 
 -- the object into which a pointer leads, while it lives
 abbrev pub object_at : Base → State → Option Slot
-object_at (Local zero id) s = slot_of id s.here.names
-object_at (Local (suc up) id) s = frame_slot id (nth up s.callers)
+object_at (Local number) s = slot_of number s.memory
 object_at (Text bytes) s = Some (Cells Byte true (literal bytes))
-object_at (Outside name) s = global_of name s.around.globals
+object_at (Outside file name) s = global_of file name s.around.globals
 object_at (Inside whole offset member) s = member_of s.around.layouts offset member (object_at whole s)
 
 -- the element's value, if its object lives, has it, and it was set
@@ -214,19 +225,16 @@ read_from offset (Some (Leads to)) = None
 abbrev pub read_at : Base → ℕ → State → Option CValue
 read_at base offset s = read_from offset (object_at base s)
 
-abbrev pub with_slot : ℕ → Slot → List Declared → List Declared
-with_slot id slot [] = []
-with_slot id slot (d ∷ ds) = if d.id == id then (record { name = d.name; id = d.id; slot = slot } ∷ ds) else (d ∷ with_slot id slot ds)
+abbrev pub with_slot : ℕ → Slot → List Stored → List Stored
+with_slot number slot [] = []
+with_slot number slot (o ∷ os) = if o.number == number then (record { number = o.number; slot = slot } ∷ os) else (o ∷ with_slot number slot os)
 
-abbrev pub with_global : List ℕ → Slot → List Global → List Global
-with_global name slot [] = []
-with_global name slot (g ∷ gs) = if bytes_eq g.name name then (record { name = name; slot = slot } ∷ gs) else (g ∷ with_global name slot gs)
+abbrev pub with_global : Option ℕ → List ℕ → Slot → List Global → List Global
+with_global file name slot [] = []
+with_global file name slot (g ∷ gs) = if is_global file name g then (record { file = g.file; name = name; slot = slot } ∷ gs) else (g ∷ with_global file name slot gs)
 
-abbrev pub in_frame : ℕ → Slot → Frame → Frame
-in_frame id slot frame = record { next = frame.next; names = with_slot id slot frame.names }
-
-abbrev pub in_around : List ℕ → Slot → Around → Around
-in_around name slot a = record { layouts = a.layouts; globals = with_global name slot a.globals; input = a.input }
+abbrev pub in_around : Option ℕ → List ℕ → Slot → Around → Around
+in_around file name slot a = record { layouts = a.layouts; globals = with_global file name slot a.globals; input = a.input }
 
 -- the numbers of an object, in order
 abbrev pub all_in : List (List (Option ℤ)) → List (Option ℤ)
@@ -257,10 +265,9 @@ put_some put (Some slot) s = put slot s
 
 -- the object has this content
 abbrev pub put_object : Base → Slot → State → State
-put_object (Local zero id) slot s = record { here = in_frame id slot s.here; callers = s.callers; around = s.around }
-put_object (Local (suc up) id) slot s = record { here = s.here; callers = change_nth up (in_frame id slot) s.callers; around = s.around }
+put_object (Local number) slot s = record { here = s.here; next = s.next; memory = with_slot number slot s.memory; around = s.around }
 put_object (Text bytes) slot s = s
-put_object (Outside name) slot s = record { here = s.here; callers = s.callers; around = in_around name slot s.around }
+put_object (Outside file name) slot s = record { here = s.here; next = s.next; memory = s.memory; around = in_around file name slot s.around }
 put_object (Inside whole offset member) slot s = put_some (put_object whole) (with_member s.around.layouts offset member slot (object_at whole s)) s
 
 abbrev pub stored : CType → Bool → List (Option ℤ) → ℕ → Option ℤ → Option Slot
@@ -290,10 +297,10 @@ copied_to offset tag cells slot = None
 abbrev pub copy_at : Base → ℕ → List ℕ → List (Option ℤ) → State → Option State
 copy_at base offset tag cells s = put_written base (copied_to offset tag cells (object_at base s)) s
 
--- A name is declared in the innermost block.
+-- A name is declared in the innermost block, for an object that begins to live.
 abbrev pub declare : List ℕ → Slot → State → State
-declare name slot s = record { here = record { next = s.here.next + 1; names = record { name = name; id = s.here.next; slot = slot } ∷ s.here.names }; callers = s.callers; around = s.around }
+declare name slot s = record { here = record { file = s.here.file; names = record { name = name; number = s.next } ∷ s.here.names }; next = suc s.next; memory = record { number = s.next; slot = slot } ∷ s.memory; around = s.around }
 
--- The names that were declared since end with their block (6.2.1, 4; 6.2.4, 5).
+-- The names that a block or a function declared, and their objects, end with it (6.2.1, 4; 6.2.4, 5).
 abbrev pub closed : State → State → State
-closed before after = record { here = record { next = after.here.next; names = drop (length after.here.names - length before.here.names) after.here.names }; callers = after.callers; around = after.around }
+closed before after = record { here = before.here; next = after.next; memory = drop (length after.memory - length before.memory) after.memory; around = after.around }

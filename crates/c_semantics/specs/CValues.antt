@@ -15,13 +15,13 @@ pub data Width : Type 0 where
   W32 : Width
   W64 : Width
 
--- which object: one of the function that is `up` calls above, by its number there; a string literal, which a
--- byte 0 closes (6.4.5); one outside functions, by its name; or a member of the structure that is this element
--- of an object (6.5.2.3)
+-- which object: one that a block or a parameter declares, by its number, which no other object ever has; a string
+-- literal, which a byte 0 closes (6.4.5); one outside functions, by its name and, if it is static, by the number of
+-- its file (6.2.2, 2 and 3); or a member of the structure that is this element of an object (6.5.2.3)
 pub data Base : Type 0 where
-  Local : (up id : ℕ) → Base
+  Local : (number : ℕ) → Base
   Text : (bytes : List ℕ) → Base
-  Outside : (name : List ℕ) → Base
+  Outside : (file : Option ℕ) (name : List ℕ) → Base
   Inside : (whole : Base) (offset : ℕ) (member : List ℕ) → Base
 
 -- a number in the type that it has after promotion, a pointer to an element, the stream `stderr`, or a structure

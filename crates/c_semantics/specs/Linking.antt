@@ -3,9 +3,11 @@
 -- structures are copied from their own type alone (6.5.16.1, 1), an array of constant size has an element (6.7.5.2, 1),
 -- calls have the declared arguments (6.5.2.2, 2), a return fits its function (6.8.6.4, 1), declarations of one name
 -- agree (6.2.7, 6.7, 4), a structure is declared once in a file and alike in each (6.7.2.3, 1; 6.2.7, 1), what is used
--- is defined once (6.9, 5), none is the library's (7.1.3), there is one `main` (5.1.2.2.1), and a jump leads to the
--- label at the end of a block around it (6.8.1, 6.8.6.1). Pointers are handed on and indexed: no operator takes one,
--- and structures are handed on by pointers alone. Static functions belong to their file (6.2.2, 3).
+-- is defined once (6.9, 5), no name is one that the standard reserves (6.4.1, 7.1.3), there is one `main` (5.1.2.2.1),
+-- and a jump leads to the label at the end of a block around it (6.8.1, 6.8.6.1). Pointers are handed on and indexed: no
+-- operator takes one, and structures are handed on by pointers alone. What a call gives is assigned to a variable alone,
+-- since the standard does not say whether the place or the call comes first (6.5.16, 4). Static functions and static
+-- objects belong to their file (6.2.2, 3).
 use Rattle.std.specs.Prelude.{ℕ, Bool, true, false, ◌&&◌, ◌||◌, ◌==◌, nat_lt, not, if◌then◌else◌, IsTrue, List, [], ◌∷◌, ◌++◌, map, codes, Option, Some, None}
 use Rattle.std.specs.List.{list_all, list_any, flat_map, filter}
 use Rattle.std.specs.Str.{bytes_eq}
@@ -24,6 +26,7 @@ use Rattle.c_nodes.specs.declared.tree.CItem.{CItem}
 use Rattle.c_nodes.specs.declared.tree.CItem.TheVariants.{Prototype, Function}
 use Rattle.c_nodes.specs.declared.tree.CItem.TheVariants as item
 use Rattle.c_nodes.specs.declared.tree.CFile.{CFile}
+use Rattle.c_semantics.specs.Reserved.{is_reserved}
 
 abbrev pub same_type : CType → CType → Bool
 same_type Int64 Int64 = true
@@ -251,9 +254,9 @@ pub record Scoping : Type 0 where
 abbrev pub kept_if : Bool → Scope → Option Scope
 kept_if right scope = if right then Some scope else None
 
--- a name once in a block, and none that is the library's macro (7.1.3)
+-- a name once in a block, and none that is reserved
 abbrev pub declared : List ℕ → Typed → Scope → Option Scope
-declared name t scope = if bytes_eq name (codes "stderr") then None else if is_declared name scope.here then None else Some (record { here = (name, t) ∷ scope.here; around = scope.around; structures = scope.structures })
+declared name t scope = if is_reserved name then None else if is_declared name scope.here then None else Some (record { here = (name, t) ∷ scope.here; around = scope.around; structures = scope.structures })
 
 abbrev pub has_structure : List ℕ → List Structure → Bool
 has_structure tag structures = list_any (λ s. bytes_eq tag s.tag) structures
@@ -291,21 +294,40 @@ inside scope = record { here = []; around = scope.here ++ scope.around; structur
 abbrev pub is_block : List Scoping → Scope → Bool
 is_block scopings scope = is_right (in_turn scopings (inside scope))
 
+abbrev pub variable_layer : CExpr-F Bool → Bool
+variable_layer (CExpr-F.Variable name) = true
+variable_layer e = false
+
+abbrev pub is_variable : CExpr → Bool
+is_variable = fold-CExpr Bool variable_layer
+
+abbrev pub zero_layer : CExpr-F Bool → Bool
+zero_layer (CExpr-F.Constant value) = value == 0
+zero_layer e = false
+
+-- the constant 0
+abbrev pub is_zero : CExpr → Bool
+is_zero = fold-CExpr Bool zero_layer
+
+-- an array has an element (6.7.5.2, 1)
+abbrev pub is_size : Scope → CExpr → Bool
+is_size scope size = is_number (type_of scope size) && not (is_zero size)
+
 -- one shape of a statement in a function that gives this, where these functions are declared (6.7, 6.8)
 abbrev pub scoping_layer : List Signature → CResult → CStmt-F Scoping → Scoping
 scoping_layer known gives (CStmt-F.Declare kind name) = record { behind = λ scope. declared_as kind name (Object kind) scope }
-scoping_layer known gives (CStmt-F.DeclareArray kind name size) = record { behind = λ scope. if is_number (type_of scope size) then declared_as kind name (Array kind) scope else None }
+scoping_layer known gives (CStmt-F.DeclareArray kind name size) = record { behind = λ scope. if is_size scope size then declared_as kind name (Array kind) scope else None }
 scoping_layer known gives (CStmt-F.DeclareValue kind name value) = record { behind = λ scope. initialized (declared_as kind name (Object kind) scope) (λ s. takes_value kind (type_of s value)) }
 scoping_layer known gives (CStmt-F.DeclarePointer kind name value) = record { behind = λ scope. initialized (declared_as kind name (Leads kind) scope) (λ s. leads_to kind (type_of s value)) }
 scoping_layer known gives (CStmt-F.DeclareCall kind name callee arguments) = record { behind = λ scope. initialized (declared_as kind name (Object kind) scope) (λ s. takes_value kind Number && is_value (call_gives known s callee arguments)) }
 scoping_layer known gives (CStmt-F.Assign target value) = record { behind = λ scope. kept_if (may_assign (type_of scope target) (type_of scope value)) scope }
-scoping_layer known gives (CStmt-F.AssignCall target callee arguments) = record { behind = λ scope. kept_if (may_assign (type_of scope target) Number && is_value (call_gives known scope callee arguments)) scope }
+scoping_layer known gives (CStmt-F.AssignCall target callee arguments) = record { behind = λ scope. kept_if (is_variable target && may_assign (type_of scope target) Number && is_value (call_gives known scope callee arguments)) scope }
 scoping_layer known gives (CStmt-F.Call callee arguments) = record { behind = λ scope. kept_if (is_call (call_gives known scope callee arguments)) scope }
 scoping_layer known gives CStmt-F.Return = record { behind = λ scope. kept_if (is_void gives) scope }
 scoping_layer known gives (CStmt-F.ReturnValue value) = record { behind = λ scope. kept_if (not (is_void gives) && is_number (type_of scope value)) scope }
 scoping_layer known gives (CStmt-F.ReturnCall callee arguments) = record { behind = λ scope. kept_if (not (is_void gives) && is_value (call_gives known scope callee arguments)) scope }
 scoping_layer known gives (CStmt-F.Goto label) = record { behind = Some }
-scoping_layer known gives (CStmt-F.Label name) = record { behind = Some }
+scoping_layer known gives (CStmt-F.Label name) = record { behind = kept_if (not (is_reserved name)) }
 scoping_layer known gives (CStmt-F.Block body) = record { behind = λ scope. kept_if (is_block body scope) scope }
 scoping_layer known gives (CStmt-F.While test body) = record { behind = λ scope. kept_if (is_number (type_of scope test) && is_block body scope) scope }
 scoping_layer known gives (CStmt-F.If test then_body) = record { behind = λ scope. kept_if (is_number (type_of scope test) && is_block then_body scope) scope }
@@ -326,22 +348,23 @@ abbrev pub parameter_scoping : CParameter → Scoping
 parameter_scoping (parameter.Value kind name) = record { behind = λ scope. if is_scalar kind then declared name (Object kind) scope else None }
 parameter_scoping (parameter.Pointer kind name) = record { behind = declared_as kind name (Leads kind) }
 
--- what a file has declared: functions, objects and structures
+-- what a file has declared: functions, objects that files share, static ones, and structures
 pub record Known : Type 0 where
   pub functions : List Signature
   pub objects : List CObject
+  pub statics : List Entry
   pub structures : List Structure
 
 -- the library's headers are in front
 abbrev pub at_start : Known
-at_start = record { functions = library; objects = []; structures = [] }
+at_start = record { functions = library; objects = []; statics = []; structures = [] }
 
 abbrev pub entry_of : CObject → Entry
 entry_of o = (object_name o, typed_as o)
 
 -- the names around a function
 abbrev pub outermost : Known → Scope
-outermost known = record { here = []; around = map entry_of known.objects; structures = known.structures }
+outermost known = record { here = []; around = known.statics ++ map entry_of known.objects; structures = known.structures }
 
 abbrev pub are_right_parameters : Known → List CParameter → Bool
 are_right_parameters known parameters = is_right (in_turn (map parameter_scoping parameters) (outermost known))
@@ -360,7 +383,7 @@ has_element (object.Single kind name) = true
 has_element (object.Array kind name size) = nat_lt 0 size
 
 abbrev pub is_right_object : List Structure → CObject → Bool
-is_right_object structures o = is_known structures (object_kind o) && has_element o
+is_right_object structures o = is_known structures (object_kind o) && has_element o && not (is_reserved (object_name o))
 
 -- objects and members of one name are the same (6.2.7)
 abbrev pub same_object : CObject → CObject → Bool
@@ -385,21 +408,32 @@ agrees_with None is_static s = true
 agrees_with (Some other) true s = false
 agrees_with (Some other) false s = same_signature s other
 
--- A function has no name of an object.
+-- A function has no name of an object, and none that is reserved.
 abbrev pub is_right_function : Known → Bool → Signature → Bool
-is_right_function known is_static s = agrees_with (signature_of s.name known.functions) is_static s && not (has_object s.name known.objects) && not (bytes_eq s.name (codes "stderr"))
+is_right_function known is_static s = agrees_with (signature_of s.name known.functions) is_static s && not (has_object s.name known.objects) && not (is_declared s.name known.statics) && not (is_reserved s.name)
+
+-- a static object has a name that nothing else has
+abbrev pub is_right_static : Known → CType → List ℕ → Bool
+is_right_static known kind name = is_known known.structures kind && not (has_name name known.functions) && not (has_object name known.objects) && not (is_declared name known.statics) && not (is_reserved name)
+
+abbrev pub with_static : List ℕ → Typed → Known → Known
+with_static name t known = record { functions = known.functions; objects = known.objects; statics = (name, t) ∷ known.statics; structures = known.structures }
 
 -- what a file has declared behind an item
 abbrev pub with_item : CItem → Known → Known
-with_item (item.Struct tag members) known = record { functions = known.functions; objects = known.objects; structures = record { tag = tag; members = members } ∷ known.structures }
-with_item (item.Object is_extern o) known = record { functions = known.functions; objects = o ∷ known.objects; structures = known.structures }
-with_item (Prototype gives name parameters) known = record { functions = signature gives name parameters ∷ known.functions; objects = known.objects; structures = known.structures }
-with_item (Function is_static gives name parameters body) known = record { functions = signature gives name parameters ∷ known.functions; objects = known.objects; structures = known.structures }
+with_item (item.Struct tag members) known = record { functions = known.functions; objects = known.objects; statics = known.statics; structures = record { tag = tag; members = members } ∷ known.structures }
+with_item (item.Object is_extern o) known = record { functions = known.functions; objects = o ∷ known.objects; statics = known.statics; structures = known.structures }
+with_item (item.StaticObject kind name) known = with_static name (Object kind) known
+with_item (item.StaticPointer kind name) known = with_static name (Leads kind) known
+with_item (Prototype gives name parameters) known = record { functions = signature gives name parameters ∷ known.functions; objects = known.objects; statics = known.statics; structures = known.structures }
+with_item (Function is_static gives name parameters body) known = record { functions = signature gives name parameters ∷ known.functions; objects = known.objects; statics = known.statics; structures = known.structures }
 
 -- An item behind those that declare what is known. A function may call itself, so its body knows it.
 abbrev pub is_right_item : CItem → Known → Bool
-is_right_item (item.Struct tag members) known = not (has_structure tag known.structures) && are_different (map object_name members) && list_all (is_right_object known.structures) members
-is_right_item (item.Object is_extern o) known = is_right_object known.structures o && not (has_name (object_name o) known.functions) && not (bytes_eq (object_name o) (codes "stderr")) && list_all (λ other. not (bytes_eq (object_name o) (object_name other)) || same_object o other) known.objects
+is_right_item (item.Struct tag members) known = not (has_structure tag known.structures) && not (is_reserved tag) && are_different (map object_name members) && list_all (is_right_object known.structures) members
+is_right_item (item.Object is_extern o) known = is_right_object known.structures o && not (has_name (object_name o) known.functions) && not (is_declared (object_name o) known.statics) && list_all (λ other. not (bytes_eq (object_name o) (object_name other)) || same_object o other) known.objects
+is_right_item (item.StaticObject kind name) known = is_right_static known kind name
+is_right_item (item.StaticPointer kind name) known = is_right_static known kind name
 is_right_item (Prototype gives name parameters) known = is_right_function known false (signature gives name parameters) && are_right_parameters known parameters
 is_right_item (Function is_static gives name parameters body) known = is_right_function known is_static (signature gives name parameters) && is_right_body (with_item (Function is_static gives name parameters body) known) gives parameters body
 

@@ -11,9 +11,9 @@ use Rattle.c_nodes.specs.declared.tree.CBinary.TheVariants.{Add, Divide, Less, E
 use Rattle.c_nodes.specs.declared.tree.CExpr.{CExpr}
 use Rattle.c_nodes.specs.declared.tree.CExpr.TheVariants.{Variable, Index, Member, Constant, Greatest, Least, Paren, Negate, Binary, Cast, ToInt, Address, Literal}
 use Rattle.c_nodes.specs.declared.tree.CStmt.{CStmt}
-use Rattle.c_nodes.specs.declared.tree.CStmt.TheVariants.{Declare, DeclareArray, DeclareValue, DeclarePointer, Assign, Call, Return, Goto, Label, Block, While, If, IfElse}
+use Rattle.c_nodes.specs.declared.tree.CStmt.TheVariants.{Declare, DeclareArray, DeclareValue, DeclarePointer, Assign, AssignCall, Call, Return, ReturnValue, Goto, Label, Block, While, If, IfElse}
 use Rattle.c_nodes.specs.declared.tree.CItem.{CItem}
-use Rattle.c_nodes.specs.declared.tree.CItem.TheVariants.{Struct, Object, Prototype, Function}
+use Rattle.c_nodes.specs.declared.tree.CItem.TheVariants.{Struct, Object, StaticObject, StaticPointer, Prototype, Function}
 use Rattle.c_nodes.specs.declared.tree.CFile.{CFile}
 use Rattle.c_nodes.specs.ShownFile.{main, ends, p_type, x_of, c_of}
 use Rattle.c_semantics.specs.CMeaning.{CMeaning}
@@ -234,6 +234,83 @@ leaves = main (Call (codes "exit") (Constant 263 ∷ []) ∷ ends ∷ []) ∷ []
 abbrev pub EndsWith : List CItem → ℕ → Type 0
 EndsWith items status = (input : List ℕ) → CMeaning (file items ∷ []) input 10 2 ≡ Ended (written [] []) status None
 
+-- What `main` returns is the status, modulo 256 (5.1.2.2.3): return 263;
+abbrev pub returns_number : List CItem
+returns_number = main (ReturnValue (Constant 263) ∷ []) ∷ []
+
+-- `main` without a return gives 0 (5.1.2.2.3)
+abbrev pub returns_nothing : List CItem
+returns_nothing = main [] ∷ []
+
+-- What `main` returns is converted to `int`, and this does not fit (6.8.6.4, 3; 6.3.1.3, 3): return INT64_C(2147483648);
+abbrev pub returns_too_much : List CItem
+returns_too_much = main (ReturnValue (Constant 2147483648) ∷ []) ∷ []
+
+-- the first element of that to which `q` leads
+abbrev pub q_first : CExpr
+q_first = Index (Variable (codes "q")) (Constant 0)
+
+-- int64_t i = 0; int64_t *q = &i; { int64_t j = 65; q = &j; inner } outer return 0;
+abbrev pub pointer_to_block : List CStmt → List CStmt → List CItem
+pointer_to_block inner outer =
+    main
+    (DeclareValue Int64 (codes "i") (Constant 0)
+    ∷ DeclarePointer Int64 (codes "q") (Address i)
+    ∷ Block
+    (DeclareValue Int64 (codes "j") (Constant 65)
+    ∷ Assign (Variable (codes "q")) (Address (Variable (codes "j")))
+    ∷ inner)
+    ∷ outer ++ ends ∷ [])
+    ∷ []
+
+-- a pointer to an object of the block that runs
+abbrev pub pointer_in_block : List CItem
+pointer_in_block = pointer_to_block (put q_first ∷ []) []
+
+-- the same pointer behind the block, when it is no value (6.2.4, 2)
+abbrev pub pointer_after_block : List CItem
+pointer_after_block = pointer_to_block [] (put q_first ∷ [])
+
+-- A static pointer holds what it is set to: static unsigned char *q; int main(void) { q = (unsigned char *)"A"; putchar(q[0]); return 0; }
+abbrev pub sets_pointer : List CItem
+sets_pointer = StaticPointer Byte (codes "q") ∷ main (Assign (Variable (codes "q")) (Literal (codes "A")) ∷ put q_first ∷ ends ∷ []) ∷ []
+
+-- a static pointer that is not set leads to no object (6.7.8, 10): putchar(q[0]);
+abbrev pub unset_pointer : List CItem
+unset_pointer = StaticPointer Byte (codes "q") ∷ main (put q_first ∷ ends ∷ []) ∷ []
+
+-- a static pointer to an object of a function that has ended (6.2.4, 2):
+-- static int64_t *q; static void f(void) { int64_t j = 65; q = &j; } int main(void) { f(); putchar(q[0]); return 0; }
+abbrev pub pointer_after_call : List CItem
+pointer_after_call =
+    StaticPointer Int64 (codes "q")
+    ∷ Function true gives.Void (codes "f") []
+    (DeclareValue Int64 (codes "j") (Constant 65)
+    ∷ Assign (Variable (codes "q")) (Address (Variable (codes "j")))
+    ∷ [])
+    ∷ main (Call (codes "f") [] ∷ put q_first ∷ ends ∷ [])
+    ∷ []
+
+-- A static object is one of its file (6.2.2, 3): static int64_t n; void f(void) { n = 66; }
+abbrev pub own_object : List CItem
+own_object =
+    StaticObject Int64 (codes "n")
+    ∷ Function false gives.Void (codes "f") [] (Assign (Variable (codes "n")) (Constant 66) ∷ [])
+    ∷ []
+
+-- static int64_t n; void f(void); int main(void) { n = 65; f(); putchar(n); return 0; }
+abbrev pub keeps_object : List CItem
+keeps_object =
+    StaticObject Int64 (codes "n")
+    ∷ Prototype gives.Void (codes "f") []
+    ∷ main
+    (Assign (Variable (codes "n")) (Constant 65)
+    ∷ Call (codes "f") []
+    ∷ put (Variable (codes "n"))
+    ∷ ends
+    ∷ [])
+    ∷ []
+
 -- The files are no program.
 abbrev pub Unlinked : List CFile → Type 0
 Unlinked files = IsProgram files → ⊥
@@ -269,6 +346,30 @@ undefined_object = Object true (Single Int64 (codes "i")) ∷ main (put i ∷ en
 -- the same, not used: a program
 abbrev pub unused_object : List CItem
 unused_object = Object true (Single Int64 (codes "i")) ∷ main (Declare Int64 (codes "i") ∷ ends ∷ []) ∷ []
+
+-- an array of no elements (6.7.5.2, 1): int64_t a[0];
+abbrev pub empty_array : List CItem
+empty_array = main (DeclareArray Int64 (codes "a") (Constant 0) ∷ ends ∷ []) ∷ []
+
+-- what a call gives, set into an element: int64_t a[1]; a[0] = getchar();
+abbrev pub call_into_element : List CItem
+call_into_element = main (DeclareArray Int64 (codes "a") (Constant 1) ∷ AssignCall (Index (Variable (codes "a")) (Constant 0)) (codes "getchar") [] ∷ ends ∷ []) ∷ []
+
+-- an object with this name in a block: int64_t N; return 0;
+abbrev pub declares : List ℕ → List CItem
+declares name = main (Declare Int64 name ∷ ends ∷ []) ∷ []
+
+-- a function of the library that is declared, though it may be called (7.1.3): int64_t getchar(void);
+abbrev pub declares_library : List CItem
+declares_library = Prototype gives.Int64 (codes "getchar") [] ∷ main (ends ∷ []) ∷ []
+
+-- a name that begins with an underscore (7.1.3), outside functions: int64_t _n;
+abbrev pub low_name : List CItem
+low_name = Object false (Single Int64 (codes "_n")) ∷ main (ends ∷ []) ∷ []
+
+-- a static object with the name of another object (6.7, 3): int64_t n; static int64_t n;
+abbrev pub static_twice : List CItem
+static_twice = Object false (Single Int64 (codes "n")) ∷ StaticObject Int64 (codes "n") ∷ main (ends ∷ []) ∷ []
 
 -- an object of one file, and of another type in the other (6.2.7, 2): extern int32_t n;
 abbrev pub other_type : List CItem

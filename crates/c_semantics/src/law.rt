@@ -5,7 +5,7 @@ ghost use Rattle.lf_base.specs.Near.{IsMonotone};
 ghost use Rattle.c_nodes.specs.declared.tree.CFile.{CFile};
 ghost use Rattle.c_semantics.specs.CMeaning.{CMeaning};
 ghost use Rattle.c_semantics.specs.Linking.{IsProgram};
-ghost use Rattle.c_semantics.specs.SmallFiles.{Unlinked, leads_nowhere, jumps_past_array, label_twice, no_member, no_structure, number_as_structure, undefined_object, unused_object, other_type, defines_again, Writes, IsUndefined, IsCut, EndsWith, file, turns, jumps, structures, wraps, stops_early, zeros, shares, sets, forever, leaves, overflow, int_overflow, by_zero, least_by_minus_one, int32_cast, int_cast, int32_store, unset_read, unset_copy, outside, pointer_outside, outside_member, no_elements, literal_write};
+ghost use Rattle.c_semantics.specs.SmallFiles.{returns_number, returns_nothing, returns_too_much, pointer_in_block, pointer_after_block, pointer_after_call, sets_pointer, unset_pointer, own_object, keeps_object, empty_array, call_into_element, declares, declares_library, low_name, static_twice, Unlinked, leads_nowhere, jumps_past_array, label_twice, no_member, no_structure, number_as_structure, undefined_object, unused_object, other_type, defines_again, Writes, IsUndefined, IsCut, EndsWith, file, turns, jumps, structures, wraps, stops_early, zeros, shares, sets, forever, leaves, overflow, int_overflow, by_zero, least_by_minus_one, int32_cast, int_cast, int32_store, unset_read, unset_copy, outside, pointer_outside, outside_member, no_elements, literal_write};
 
 /// Larger bounds keep the end of a C program with its output and its status, and never shorten what it
 /// writes.
@@ -13,8 +13,8 @@ pub fn larger_bounds()
     ensures { (files : List CFile) (input : List ℕ) → IsMonotone (CMeaning files input) }
 {}
 
-/// Loops, jumps, structures, conversions, tests and objects outside functions, each in a small file that writes what
-/// the standard says and ends with status 0.
+/// Loops, jumps, structures, conversions, tests, pointers and objects outside functions, each in a small file that
+/// writes what the standard says and ends with status 0, and the status with which `main` ends.
 pub fn small_files_end()
     ensures turns { Writes (file turns ∷ []) (codes "aaa") }
     ensures jumps { Writes (file jumps ∷ []) (codes "ab") }
@@ -23,7 +23,12 @@ pub fn small_files_end()
     ensures stops_early { Writes (file stops_early ∷ []) (codes "bc") }
     ensures zeros { Writes (file zeros ∷ []) (codes "AB") }
     ensures shared { Writes (file shares ∷ file sets ∷ []) (codes "AB") }
+    ensures pointer { Writes (file pointer_in_block ∷ []) (codes "A") }
+    ensures static_pointer { Writes (file sets_pointer ∷ []) (codes "A") }
+    ensures static_object { Writes (file keeps_object ∷ file own_object ∷ []) (codes "A") }
     ensures leaves { EndsWith leaves 7 }
+    ensures number { EndsWith returns_number 7 }
+    ensures nothing { EndsWith returns_nothing 0 }
     ensures cut { IsCut forever 3 (codes "aaa") }
 {}
 
@@ -43,6 +48,10 @@ pub fn undefined_cases()
     ensures outside_member { IsUndefined outside_member }
     ensures no_elements { IsUndefined no_elements }
     ensures literal_write { IsUndefined literal_write }
+    ensures after_block { IsUndefined pointer_after_block }
+    ensures after_call { IsUndefined pointer_after_call }
+    ensures unset_pointer { IsUndefined unset_pointer }
+    ensures too_much { IsUndefined returns_too_much }
 {}
 
 /// Which small files are one program.
@@ -54,6 +63,8 @@ pub fn small_programs()
     ensures zeros { IsProgram (file zeros ∷ []) }
     ensures unused_object { IsProgram (file unused_object ∷ []) }
     ensures shared { IsProgram (file shares ∷ file sets ∷ []) }
+    ensures pointer { IsProgram (file sets_pointer ∷ []) }
+    ensures static_object { IsProgram (file keeps_object ∷ file own_object ∷ []) }
 {}
 
 /// Small files that are no program: each breaks one rule.
@@ -67,4 +78,11 @@ pub fn no_programs()
     ensures undefined_object { Unlinked (file undefined_object ∷ []) }
     ensures other_type { Unlinked (file shares ∷ file other_type ∷ []) }
     ensures defines_again { Unlinked (file shares ∷ file defines_again ∷ []) }
+    ensures empty_array { Unlinked (file empty_array ∷ []) }
+    ensures call_into_element { Unlinked (file call_into_element ∷ []) }
+    ensures reserved_word { Unlinked (file (declares (codes "for")) ∷ []) }
+    ensures reserved_macro { Unlinked (file (declares (codes "EOF")) ∷ []) }
+    ensures reserved_function { Unlinked (file declares_library ∷ []) }
+    ensures low_name { Unlinked (file low_name ∷ []) }
+    ensures static_twice { Unlinked (file static_twice ∷ []) }
 {}

@@ -6,7 +6,7 @@ pub returns-clause-value : goal.returns-clause-value
 returns-clause-value c = add_law
 
 pub returns-clause-greatest : goal.returns-clause-greatest
-returns-clause-greatest c = record { value = λ s w. refl; trap = λ s w. refl }
+returns-clause-greatest c = record { value = refl; trap = refl }
 
 pub returns-clause-least : goal.returns-clause-least
-returns-clause-least c = record { value = λ s w. refl; trap = λ s w. refl }
+returns-clause-least c = record { value = refl; trap = refl }

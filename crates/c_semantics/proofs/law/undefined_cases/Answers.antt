@@ -1,4 +1,4 @@
-use Rattle.c_semantics.proofs.SmallFiles.{overflow_is, int_overflow_is, by_zero_is, least_by_minus_one_is, int32_cast_is, int_cast_is, int32_store_is, unset_read_is, unset_copy_is, outside_is, pointer_outside_is, outside_member_is, no_elements_is, literal_write_is}
+use Rattle.c_semantics.proofs.SmallFiles.{overflow_is, int_overflow_is, by_zero_is, least_by_minus_one_is, int32_cast_is, int_cast_is, int32_store_is, unset_read_is, unset_copy_is, outside_is, pointer_outside_is, outside_member_is, no_elements_is, literal_write_is, after_block_is, after_call_is, unset_pointer_is, too_much_is}
 use Rattle.c_semantics.proofs.law.undefined_cases.Goals as goal
 
 pub returns-clause-overflow : goal.returns-clause-overflow
@@ -42,3 +42,15 @@ returns-clause-no_elements c = no_elements_is
 
 pub returns-clause-literal_write : goal.returns-clause-literal_write
 returns-clause-literal_write c = literal_write_is
+
+pub returns-clause-after_block : goal.returns-clause-after_block
+returns-clause-after_block c = after_block_is
+
+pub returns-clause-after_call : goal.returns-clause-after_call
+returns-clause-after_call c = after_call_is
+
+pub returns-clause-unset_pointer : goal.returns-clause-unset_pointer
+returns-clause-unset_pointer c = unset_pointer_is
+
+pub returns-clause-too_much : goal.returns-clause-too_much
+returns-clause-too_much c = too_much_is

@@ -1,5 +1,5 @@
 -- A file that was begun, written and finished, and what comes of a file of the store.
-use Rattle.std.proofs.Common.{◌≡◌, ℕ, ◌<◌, true, List, [], ◌++◌, length, Option, Some, None, Ok, Err, refl, sym, ap, subst, ◌∙◌, arith}
+use Rattle.std.proofs.Common.{◌≡◌, ℕ, ◌<◌, true, List, [], ◌++◌, length, Option, Some, None, Result, Ok, Err, inl, inr, refl, sym, ap, subst, ◌∙◌, arith}
 use Rattle.std.specs.Prelude.{if◌then◌else◌, nat_lt}
 use Rattle.std.specs.FinMap.{get}
 use Rattle.std.proofs.lemmas.Bool.Decides.{nat_tests}
@@ -8,24 +8,27 @@ use Rattle.lf_base.specs.declared.rule.Rule.{Rule}
 use Rattle.lf_base.specs.declared.rule.Rule.TheVariants.{E108}
 use Rattle.lf_base.specs.declared.fault.GetFault.TheVariants.{TooLong}
 use Rattle.lf_base.specs.declared.fault.GetFault.TheVariants as read
+use Rattle.lf_base.specs.declared.fault.PutFault.{PutFault}
 use Rattle.lf_base.specs.declared.fault.SyntaxFault.TheVariants as syntax
 use Rattle.lf_base.specs.Contents.{Appends}
-use Rattle.lf_base.specs.Files.{Files, Begins, Finishes, ReadGives, greatest_file}
+use Rattle.lf_base.specs.Files.{Files, Finishes, ReadGives, greatest_file}
+use Rattle.lf_base.specs.Files as base
 use Rattle.ff_lexer.specs.Statements.{spelled_as, found_in, drafts_of, statements_of}
 use Rattle.ast_nodes.specs.declared.file.File.{File}
-use Rattle.lf_driver.specs.declared.command.Verb.TheVariants.{Compile}
 use Rattle.lf_driver.specs.declared.outcome.Answer.{Answer}
 use Rattle.lf_driver.specs.declared.outcome.Answer.TheVariants.{Done, Usage, Absent, Refused, ReadFault, WriteFault, Memory}
-use Rattle.lf_driver.specs.Built.{program_in, judged}
-use Rattle.lf_driver.specs.Front.{then_file, front_of, then_built, source_in}
-use Rattle.lf_driver.specs.Verdict.{c_name, of_source, of_file}
+use Rattle.lf_driver.specs.OnePrint.Built.{program_in, judged}
+use Rattle.lf_driver.specs.Front.{Parsed, then_file, front_of, then_built, source_in}
+use Rattle.lf_driver.specs.Known.{nothing}
+use Rattle.lf_driver.specs.Refusal as refusal
+use Rattle.lf_driver.specs.Verdict.{Stops, c_name, step_of_built, step_of_tree, step}
 use Rattle.lf_driver.specs.Ends.{Counts}
-use Rattle.lf_driver.specs.Compile.{GivesC, Compiled, Saved, TextComesTo, FileComesTo}
+use Rattle.lf_driver.specs.Compile.{GivesC, IsC, IsPending, IsPendingC, Saved, TextComesTo, FileComesTo, Begins}
 
-pub saved : (old now new : Option Files) (held held' pending : Option (List ℕ)) (name bytes : List ℕ) → Begins old held → Appends held held' bytes → now ≡ old → pending ≡ Some name → Finishes now pending held' new → Saved old name bytes new
+pub saved : (old now new : Option Files) (held held' pending : Option (List ℕ)) (name bytes : List ℕ) → base.Begins old held → Appends held held' bytes → now ≡ old → pending ≡ Some name → Finishes now pending held' new → Saved old name bytes new
 saved old now new held held' pending name bytes begins appends same is finishes = record {
   told = λ files e.
-      let empty : held ≡ Some [] = subst (λ o. Begins o held) e begins in
+      let empty : held ≡ Some [] = subst (λ o. base.Begins o held) e begins in
       finishes.told files name bytes (same ∙ e) is (appends.bytes [] empty);
 }
 
@@ -37,7 +40,7 @@ filled old new text h e =
     same ∙ ap (λ o. o ++ text) e
 
 -- the C file of a text
-pub compiled : (text bytes : List ℕ) (tree : File) → front_of text ≡ Ok tree → GivesC (Ok bytes) (program_in tree) → Compiled text bytes
+pub compiled : (text bytes : List ℕ) (tree : File) → front_of text ≡ Ok tree → GivesC (Ok bytes) (program_in tree) → IsC text bytes
 compiled text bytes tree e h = record { tree = tree; source = h.0; parsed = e; built = h.1; fits = h.2; is = h.3 }
 
 pub not_built : (text : List ℕ) (tree : File) (line : ℕ) (rule : Rule) → front_of text ≡ Ok tree → GivesC (Err (syntax.At line rule)) (program_in tree) → source_in text ≡ Err (line, rule)
@@ -56,17 +59,21 @@ long_text text h = ap (λ t. if t then Err (1, E108) else found_in spelled_as (d
 pub long_front : (text : List ℕ) → greatest_file < length text → front_of text ≡ Err (1, E108)
 long_front text h = ap then_file (long_text text h)
 
+-- a fault of the front or of what is built is the one at which the file is refused
+stops : (file : List ℕ) (there : Parsed) (fault : ℕ × Rule) → then_built there ≡ Err fault → step_of_tree nothing file there ≡ Stops (refusal.Refused file fault.0 fault.1)
+stops file (Ok tree) fault h = ap (step_of_built nothing file tree) h
+stops file (Err fault') fault h =
+    let same : fault' ≡ fault = cc in
+    ap (λ f. Stops (refusal.Refused file f.0 f.1)) same
+
 -- what a read gives, and what comes of it
 pub too_long : {V : Type 0} (view : V → List ℕ) (old new : Option Files) (file : Bor (List ℕ)) → ReadGives {V = V} view old file.now (Err TooLong) → new ≡ old → FileComesTo (Refused file 1 E108) file.now old new
 too_long view None new file h k = (k, tt)
-too_long view (Some files) new file h k = (k, ap (of_file Compile file.now) h.1 ∙ ap (λ p. of_source file.now (then_built p)) (long_front h.0 h.2))
+too_long view (Some files) new file h k = (k, ap (step nothing file.now) h.1 ∙ ap (step_of_tree nothing file.now) (long_front h.0 h.2))
 
 pub none_there : {V : Type 0} (view : V → List ℕ) (old new : Option Files) (file : Bor (List ℕ)) → ReadGives {V = V} view old file.now (Err read.Absent) → new ≡ old → FileComesTo (Absent file) file.now old new
 none_there view None new file h k = (k, tt)
-none_there view (Some files) new file h k = (k, ap (of_file Compile file.now) h)
-
-there : {V : Type 0} (view : V → List ℕ) (v : V) (files : Files) (file : List ℕ) → ReadGives {V = V} view (Some files) file (Ok v) → of_file Compile file (get files file) ≡ of_source file (source_in (view v))
-there view v files file h = ap (of_file Compile file) h.0
+none_there view (Some files) new file h k = (k, ap (step nothing file.now) h)
 
 pub text_there : {V : Type 0} (view : V → List ℕ) (v : V) (o : Answer) (old now new : Option Files) (file : List ℕ) → ReadGives {V = V} view old file (Ok v) → now ≡ old → TextComesTo o file (view v) now new → FileComesTo o file old new
 text_there view v Done None now new file h k t = tt
@@ -74,18 +81,28 @@ text_there view v Done (Some files) now new file h k t = record { text = view v;
 text_there view v Usage old now new file h k t = absurd t
 text_there view v (Absent name) old now new file h k t = absurd t
 text_there view v (Refused name line rule) None now new file h k t = (t.1 ∙ k, tt)
-text_there view v (Refused name line rule) (Some files) now new file h k t = (t.1 ∙ k, there view v files file h ∙ t.0)
+text_there view v (Refused name line rule) (Some files) now new file h k t = (t.1 ∙ k, ap (step nothing file) h.0 ∙ t.0)
 text_there view v ReadFault old now new file h k t = absurd t
 text_there view v WriteFault old now new file h k t = t ∙ k
 text_there view v Memory old now new file h k t = t ∙ k
 
 -- the C file of a source that was translated and put into the store
-pub text_done : (file text bytes : List ℕ) (old new : Option Files) → Compiled text bytes → Saved old (c_name file) bytes new → TextComesTo Done file text old new
+pub text_done : (file text bytes : List ℕ) (old new : Option Files) → IsC text bytes → Saved old (c_name file) bytes new → TextComesTo Done file text old new
 text_done file text bytes old new h s = (bytes, h, s)
 
 pub text_refused : (file : Bor (List ℕ)) (text : List ℕ) (line : ℕ) (rule : Rule) (old new : Option Files) → source_in text ≡ Err (line, rule) → new ≡ old → TextComesTo (Refused file line rule) file.now text old new
-text_refused file text line rule old new h k = (ap (of_source file.now) h, k)
+text_refused file text line rule old new h k = (stops file.now (front_of text) (line, rule) h, k)
 
 -- counts that did not change before
 pub counts_after : (o : Answer) (r r' r'' w w' w'' : ℕ) → r' ≡ r → w' ≡ w → Counts o r' r'' w' w'' → Counts o r r'' w w''
 counts_after o r r' r'' w w' w'' h k c = subst (λ n. Counts o n r'' w w'') h (subst (λ n. Counts o r' r'' n w'') k c)
+
+-- what was pending and did not change before
+pub begins_after : (o : Answer) (file : List ℕ) (p p' p'' b b' b'' : Option (List ℕ)) → p' ≡ p → b' ≡ b → Begins o file p' p'' b' b'' → Begins o file p p'' b b''
+begins_after o file p p' p'' b b' b'' h k c = subst (λ x. Begins o file x p'' b b'') h (subst (λ x. Begins o file p' p'' x b'') k c)
+
+-- the pending file under the name of a C file
+pub pending_c : (r : Result (Unit {0}) PutFault) (name file : List ℕ) (old new : Option (List ℕ)) → name ≡ c_name file → IsPending r name new → IsPendingC r file old new
+pending_c (Ok u) name file old new e h = h
+pending_c (Err fault) name file old new e (inl h) = inr (inl h)
+pending_c (Err fault) name file old new e (inr h) = inr (inr (h ∙ ap Some e))

@@ -1,72 +1,132 @@
 -- What is told decides the status, and the status tells what came.
-use Rattle.std.proofs.Common.{◌≡◌, ℕ, true, false, List, [], ◌∷◌, Option, Some, None, IsSome, ◌⊎◌, inl, inr, refl, sym, ap, subst, ◌∙◌}
-use Rattle.std.specs.FinMap.{insert}
-use Rattle.lf_base.specs.Causes.{Rose}
-use Rattle.lf_base.specs.Contents.{Appends}
+use Rattle.std.proofs.Common.{◌≡◌, ℕ, List, [], ◌∷◌, Option, Some, None, inl, inr, refl, sym, ap, subst, ◌∙◌}
+use Rattle.std.specs.FinMap.{get}
+use denote.Ref.{Bor}
+use Rattle.lf_base.specs.declared.fault.PutFault.TheVariants as put
+use Rattle.lf_base.specs.declared.rule.Rule.{Rule}
 use Rattle.lf_base.specs.Files.{Files}
-use Rattle.lf_driver.specs.declared.command.Verb.TheVariants.{Compile}
+use Rattle.ast_nodes.specs.Text.{ast_text}
+use Rattle.lf_driver.specs.declared.command.Verb.{Verb}
+use Rattle.lf_driver.specs.declared.command.Verb.TheVariants.{Compile, Ast}
 use Rattle.lf_driver.specs.declared.outcome.Answer.{Answer}
 use Rattle.lf_driver.specs.declared.outcome.Answer.TheVariants.{Done, Usage, Absent, Refused, ReadFault, WriteFault, Memory}
-use Rattle.lf_driver.specs.Built as built
-use Rattle.lf_driver.specs.Front.{then_built, source_in}
-use Rattle.lf_driver.specs.Compile.{Compiled, Compiles}
-use Rattle.lf_driver.specs.Verdict.{Told, c_name, of_source, of_file, of_command, verdict}
-use Rattle.lf_driver.specs.Verdict as judged
-use Rattle.lf_driver.specs.Words.{CommandText, words_of, shows}
-use Rattle.lf_driver.specs.Ends.{Writes, Shows, status_of, text_of, ComesTo, CountsAll, Reports, Tells, GainsBoth}
-use Rattle.lf_driver.specs.Answers.{Call, AnswersWritten, AnswersShown, Answered}
-use Rattle.lf_driver.proofs.Doing.{fronts}
+use Rattle.lf_driver.specs.Answers.{OfCommand, Halts, IsUntouched, IsUnread, IsUnwritten, IsCutShort, IsCompiled, Succeeds, StopsAt, FailsToRead, FailsToWrite, WantsMemory, ComesTo, Answered}
+use Rattle.lf_driver.specs.Call.{Stored, Held, Call, Tells, TellsInstead, stored, held}
+use Rattle.lf_driver.specs.Compile.{Compiles}
+use Rattle.lf_driver.specs.Ends.{status_of, text_of, Does, Performs, Announces, Reports}
+use Rattle.lf_driver.specs.Known.{nothing}
+use Rattle.lf_driver.specs.Refusal.{Refusal, refusal_text, write_fault_text, memory_text}
+use Rattle.lf_driver.specs.Refusal as refusal
+use Rattle.lf_driver.specs.Show.{FileShows}
+use Rattle.lf_driver.specs.Verdict.{Verdict, Refuses, Shown, Step, Stops, Told, AreWritten, of_left, of_shown, of_files, of_command, step, then_more, left_by, verdict}
+use Rattle.lf_driver.specs.Words.{CommandText, words_of}
+use Rattle.lf_driver.proofs.Written.{written_one}
 
--- the text of what came was written, or that of a fault behind a front of it
-abbrev Announced : Answer → Answer → Call → Type 0
-Announced came told c = ((told ≡ came) × Appends c.held c.held' (text_of came) × (c.faults' ≡ c.faults)) ⊎ (((told ≡ WriteFault) × Rose c.faults c.faults' × GainsBoth c.held c.held' (text_of came) (text_of WriteFault)) ⊎ ((told ≡ Memory) × GainsBoth c.held c.held' (text_of came) (text_of Memory)))
+same_stored : (s t : Stored) → t.files ≡ s.files → t.pending ≡ s.pending → t.bytes ≡ s.bytes → t.reads ≡ s.reads → t.writes ≡ s.writes → t ≡ s
+same_stored s t f p b r w =
+    ap (λ x. stored x t.pending t.bytes t.reads t.writes) f
+    ∙ ap (λ x. stored s.files x t.bytes t.reads t.writes) p
+    ∙ ap (λ x. stored s.files s.pending x t.reads t.writes) b
+    ∙ ap (λ x. stored s.files s.pending s.bytes x t.writes) r
+    ∙ ap (stored s.files s.pending s.bytes s.reads) w
 
-told_by : (came told : Answer) (c : Call) → Tells came told c.held c.held' c.faults c.faults' → Announced came told c
-told_by came Done c h = inl (h.0, h.1, h.2)
-told_by came Usage c h = inl (h.0, h.1, h.2)
-told_by came (Absent name) c h = inl (h.0, h.1, h.2)
-told_by came (Refused name line rule) c h = inl (h.0, h.1, h.2)
-told_by came ReadFault c h = inl (h.0, h.1, h.2)
-told_by came WriteFault c h = inr (inl (refl, h.0, h.1))
-told_by came Memory c h = inr (inr (refl, h))
+same_held : (a b : Held) → b.bytes ≡ a.bytes → b.faults ≡ a.faults → b ≡ a
+same_held a b e f = ap (λ x. held x b.faults) e ∙ ap (held a.bytes) f
 
-abbrev Answers : Answer → Call → Type 0
-Answers told c = Answered (status_of told) c
+-- a fact of the one file that words name
+of_one : (o : Option CommandText) (verb : Verb) (file : List ℕ) (fact : Verb → List (List ℕ) → Type 0) → o ≡ Some (verb, 0, file ∷ []) → fact verb (file ∷ []) → OfCommand o fact
+of_one o verb file fact e h = subst (λ x. OfCommand x fact) (sym e) h
 
--- a text of the words' own, and what is told in its place
-module _ (came told : Answer) (c : Call) (kept : c.new ≡ c.old) (shown : c.shown' ≡ c.shown) (comes : ComesTo came c.words c.old c.new c.shown c.shown') (counts : (c.reads' ≡ c.reads) × (c.writes' ≡ c.writes) × (c.puts' ≡ c.puts)) (own : Appends c.held c.held' (text_of came) → c.faults' ≡ c.faults → Answers came c) where
-  with_text : Announced came told c → Answers told c
-  with_text (inl h) = subst (λ o. Answers o c) (sym h.0) (own h.1 h.2)
-  with_text (inr (inl h)) = subst (λ o. Answers o c) (sym h.0) (kept, counts.0, inr (counts.1, counts.2, shown, h.1, (came, comes, h.2)))
-  with_text (inr (inr h)) = subst (λ o. Answers o c) (sym h.0) (kept, counts.0, counts.1, counts.2, fronts c.words c.old c.shown c.shown' shown, inr (came, comes, h.1))
+halts_first : (Ends : List ℕ → Stored → Stored → Type 0) (file : List ℕ) (s t : Stored) → Ends file s t → Halts Ends (file ∷ []) s t
+halts_first Ends file s t h = record { front = []; file = file; rest = []; is = refl; between = s; behind = refl; ends = h }
 
--- what was compiled is what the verdict says
-done_is : (file text bytes : List ℕ) → Compiled text bytes → of_source file (source_in text) ≡ judged.Done (c_name file) bytes
-done_is file text bytes k = ap (λ p. of_source file (then_built p)) k.parsed ∙ ap (λ b. of_source file (built.judged b)) k.built ∙ ap (judged.Done (c_name file)) (sym k.is)
+told_weaker : (o : Option Files) (A B : Files → Type 0) → ((files : Files) → A files → B files) → Told o A → Told o B
+told_weaker None A B h a = tt
+told_weaker (Some files) A B h a = h files a
 
-written : (words : List (List ℕ)) (file : List ℕ) (old new : Option Files) → words_of words ≡ Some (Compile, 0, file ∷ []) → Told old (λ files. Compiles file files new) → Told old (λ files. (name : List ℕ) × (bytes : List ℕ) × (verdict words files ≡ judged.Done name bytes) × (new ≡ Some (insert files name bytes)))
-written words file None new h k = tt
-written words file (Some files) new h k = (c_name file, k.bytes, ap (λ c. of_command c files) h ∙ ap (of_file Compile file) k.there ∙ done_is file k.text k.bytes k.compiled, k.written)
+-- the verdict on one file
+stopped_is : (file : List ℕ) (refused : Refusal) (files : Files) → step nothing file (get files file) ≡ Stops refused → of_files Compile (file ∷ []) files ≡ Refuses refused
+stopped_is file refused files e = ap (λ t. of_left (then_more t nothing files (λ known' files'. left_by known' files' [])).files (then_more t nothing files (λ known' files'. left_by known' files' [])).stopped) e
 
-some_shows : (o : Option CommandText) → shows o ≡ true → IsSome o
-some_shows None h = absurd (no h)
-  where
-    no : false ≡ true → ⊥
-    no e = cc
-some_shows (Some command) h = refl
+judged_by : (words : List (List ℕ)) (verb : Verb) (file : List ℕ) (v : Verdict) (files : Files) → words_of words ≡ Some (verb, 0, file ∷ []) → of_files verb (file ∷ []) files ≡ v → verdict words files ≡ v
+judged_by words verb file v files h e = ap (λ c. of_command c files) h ∙ e
 
-done : (c : Call) → Writes c.words c.old c.new c.shown c.shown' ⊎ Shows c.words c.old c.new c.shown c.shown' → IsSome (words_of c.words) × (AnswersWritten c ⊎ AnswersShown c)
-done c (inl k) = (subst IsSome (sym k.1) refl, inl (k.3, written c.words k.0 c.old c.new k.1 k.2))
-done c (inr k) = (some_shows (words_of c.words) k.0, inr k)
+module _ (c : Call) (file : List ℕ) where
+  compile_refused : (refused : Refusal) → words_of c.words ≡ Some (Compile, 0, file ∷ []) → Told c.store.files (λ files. step nothing file (get files file) ≡ Stops refused) → Told c.store.files (λ files. verdict c.words files ≡ Refuses refused)
+  compile_refused refused h t = told_weaker c.store.files (λ files. step nothing file (get files file) ≡ Stops refused) (λ files. verdict c.words files ≡ Refuses refused) (λ files e. judged_by c.words Compile file (Refuses refused) files h (stopped_is file refused files e)) t
 
-answers : (came told : Answer) (c : Call) → ComesTo came c.words c.old c.new c.shown c.shown' → CountsAll came c.reads c.reads' c.writes c.writes' c.puts c.puts' → Reports came told c.held c.held' c.faults c.faults' → Answers told c
-answers Done told c k n r = let d = done c k in subst (λ o. Answers o c) (sym r.0) (d.0, d.1, r.1, (n.0, n.1, n.2, r.2))
-answers Usage told c k n r = with_text Usage told c k.1 k.2 k n (λ a f. inl (k.0, (k.1, k.2), a, (n.0, n.1, n.2, f))) (told_by Usage told c r)
-answers (Absent name) told c k n r = with_text (Absent name) told c k.1 k.2 k n (λ a f. inr (k.0, (k.1, k.2), (name.now, k.3, a), (n.0, n.1, n.2, f))) (told_by (Absent name) told c r)
-answers (Refused name line rule) told c k n r = with_text (Refused name line rule) told c k.1 k.2 k n (λ a f. (k.0, (k.1, k.2), (name.now, line, rule, k.3, a), (n.0, n.1, n.2, f))) (told_by (Refused name line rule) told c r)
-answers ReadFault told c k n r = subst (λ o. Answers o c) (sym r.0) (k, n.0, n.1, n.2, r.1)
-answers WriteFault told c k n r = subst (λ o. Answers o c) (sym r.0) (k.0, n.0, inl (n.1, k.1, r.1))
-answers Memory told c k n r = subst (λ o. Answers o c) (sym r.0) (k.0, n.0, n.1, n.2, k.1, inl r.1)
+  ast_is : (v : Verdict) → words_of c.words ≡ Some (Ast, 0, file ∷ []) → Told c.store.files (λ files. of_shown file (get files file) ≡ v) → Told c.store.files (λ files. verdict c.words files ≡ v)
+  ast_is v h t = told_weaker c.store.files (λ files. of_shown file (get files file) ≡ v) (λ files. verdict c.words files ≡ v) (λ files e. judged_by c.words Ast file v files h e) t
 
-pub answered : (status : ℕ) (came told : Answer) (c : Call) → status ≡ status_of told → ComesTo came c.words c.old c.new c.shown c.shown' → CountsAll came c.reads c.reads' c.writes c.writes' c.puts c.puts' → Reports came told c.held c.held' c.faults c.faults' → Answered status c
-answered status came told c e k n r = subst (λ s. Answered s c) (sym e) (answers came told c k n r)
+  succeeds : (verb : Verb) → words_of c.words ≡ Some (verb, 0, file ∷ []) → Does Done verb file c.store c.store' c.out c.out' → Succeeds c verb (file ∷ [])
+  succeeds Compile h d = (record { files = told_weaker c.store.files (λ files. Compiles file files c.store'.files) (AreWritten (file ∷ []) c.store'.files) (λ files k. written_one file files c.store'.files k) d.comes.0; pending = d.pending; reads = d.counts.0.0; writes = d.counts.0.1 }, same_held c.out c.out' d.comes.1 d.counts.1)
+  succeeds Ast h d = (same_stored c.store c.store' d.comes.1 d.pending.0 d.pending.1 d.counts.0.0 d.counts.1, d.counts.0.1, (d.comes.0.0, ast_is (Shown (ast_text d.comes.0.0)) h d.comes.0.1, d.comes.0.2))
+
+  fails_to_read : (verb : Verb) → Does ReadFault verb file c.store c.store' c.out c.out' → FailsToRead c verb (file ∷ []) × (c.out' ≡ c.out)
+  fails_to_read Compile d = (halts_first IsUnread file c.store c.store' (record { files = d.comes.0; pending = d.pending.0; bytes = d.pending.1; reads = d.counts.0.0; writes = d.counts.0.1 }), same_held c.out c.out' d.comes.1 d.counts.1)
+  fails_to_read Ast d = (record { files = d.comes.1; pending = d.pending.0; bytes = d.pending.1; reads = d.counts.0.0; writes = d.counts.1 }, same_held c.out c.out' d.comes.0 d.counts.0.1)
+
+  fails_to_write : (verb : Verb) → words_of c.words ≡ Some (verb, 0, file ∷ []) → Does WriteFault verb file c.store c.store' c.out c.out' → FailsToWrite c verb (file ∷ [])
+  fails_to_write Compile h d = (halts_first IsUnwritten file c.store c.store' (record { files = d.comes.0; pending = d.pending; reads = d.counts.0.0; writes = d.counts.0.1 }), same_held c.out c.out' d.comes.1 d.counts.1)
+  fails_to_write Ast h d = (same_stored c.store c.store' d.comes.1 d.pending.0 d.pending.1 d.counts.0.0 d.counts.1, d.counts.0.1, (d.comes.0.0, ast_is (Shown (ast_text d.comes.0.0)) h d.comes.0.1, d.comes.0.2))
+
+  wants_memory : (verb : Verb) → words_of c.words ≡ Some (verb, 0, file ∷ []) → Does Memory verb file c.store c.store' c.out c.out' → WantsMemory c verb (file ∷ [])
+  wants_memory Compile h d = (halts_first IsCutShort file c.store c.store' (record { files = d.comes.0; pending = d.pending; reads = d.counts.0.0; writes = d.counts.0.1 }), same_held c.out c.out' d.comes.1 d.counts.1)
+  wants_memory Ast h d = by d.comes.0
+    where
+      by : FileShows Memory file c.store.files c.out.bytes c.out'.bytes → WantsMemory c Ast (file ∷ [])
+      by (inl e) = (same_stored c.store c.store' d.comes.1 d.pending.0 d.pending.1 d.counts.0.0 d.counts.1, d.counts.0.1, inl e)
+      by (inr s) = (same_stored c.store c.store' d.comes.1 d.pending.0 d.pending.1 d.counts.0.0 d.counts.1, d.counts.0.1, inr (s.0, ast_is (Shown (ast_text s.0)) h s.1, s.2))
+
+  stops_absent : (verb : Verb) (name : Bor (List ℕ)) → words_of c.words ≡ Some (verb, 0, file ∷ []) → Does (Absent name) verb file c.store c.store' c.out c.out' → ComesTo c (refusal.Absent name.now)
+  stops_absent Compile name h d = (of_one (words_of c.words) Compile file (StopsAt c) h (halts_first IsUntouched file c.store c.store' (same_stored c.store c.store' d.comes.0.0 d.pending.0 d.pending.1 d.counts.0.0 d.counts.0.1)), same_held c.out c.out' d.comes.1 d.counts.1, compile_refused (refusal.Absent name.now) h d.comes.0.1)
+  stops_absent Ast name h d = (of_one (words_of c.words) Ast file (StopsAt c) h (same_stored c.store c.store' d.comes.1 d.pending.0 d.pending.1 d.counts.0.0 d.counts.1), same_held c.out c.out' d.comes.0.0 d.counts.0.1, ast_is (Refuses (refusal.Absent name.now)) h d.comes.0.1)
+
+  stops_refused : (verb : Verb) (name : Bor (List ℕ)) (line : ℕ) (rule : Rule) → words_of c.words ≡ Some (verb, 0, file ∷ []) → Does (Refused name line rule) verb file c.store c.store' c.out c.out' → ComesTo c (refusal.Refused name.now line rule)
+  stops_refused Compile name line rule h d = (of_one (words_of c.words) Compile file (StopsAt c) h (halts_first IsUntouched file c.store c.store' (same_stored c.store c.store' d.comes.0.0 d.pending.0 d.pending.1 d.counts.0.0 d.counts.0.1)), same_held c.out c.out' d.comes.1 d.counts.1, compile_refused (refusal.Refused name.now line rule) h d.comes.0.1)
+  stops_refused Ast name line rule h d = (of_one (words_of c.words) Ast file (StopsAt c) h (same_stored c.store c.store' d.comes.1 d.pending.0 d.pending.1 d.counts.0.0 d.counts.1), same_held c.out c.out' d.comes.0.0 d.counts.0.1, ast_is (Refuses (refusal.Refused name.now line rule)) h d.comes.0.1)
+
+-- A refusal is told, or what is told in its place.
+module _ (c : Call) (came : Answer) (refused : Refusal) (same : text_of came ≡ refusal_text refused) (comes : ComesTo c refused) (own : Tells c.err c.err' (refusal_text refused) → Answered (status_of came) c) where
+  whole : (told : Answer) → told ≡ came → Tells c.err c.err' (text_of came) → Answered (status_of told) c
+  whole told e h = subst (λ o. Answered (status_of o) c) (sym e) (own (subst (Tells c.err c.err') same h))
+
+  announced : (told : Answer) → Announces came told c.err c.err' → Answered (status_of told) c
+  announced Done h = whole Done h.0 h.1
+  announced Usage h = whole Usage h.0 h.1
+  announced (Absent name) h = whole (Absent name) h.0 h.1
+  announced (Refused name line rule) h = whole (Refused name line rule) h.0 h.1
+  announced ReadFault h = whole ReadFault h.0 h.1
+  announced WriteFault h = inr (refused, comes, subst (λ t. TellsInstead put.Failed c.err c.err' t write_fault_text) same h)
+  announced Memory h = inr (refused, comes, subst (λ t. TellsInstead put.Memory c.err c.err' t memory_text) same h)
+
+no_usage : (verb : Verb) (file : List ℕ) (s t : Stored) (a b : Held) → Does Usage verb file s t a b → ⊥
+no_usage Compile file s t a b d = d.comes.0
+no_usage Ast file s t a b d = d.comes.0
+
+abbrev Told_by : Answer → Call → Type 0
+Told_by told c = Answered (status_of told) c
+
+of_file : (came told : Answer) (verb : Verb) (file : List ℕ) (c : Call) → words_of c.words ≡ Some (verb, 0, file ∷ []) → Does came verb file c.store c.store' c.out c.out' → Reports came told c.err c.err' → Answered (status_of told) c
+of_file Done told verb file c h d r = subst (λ o. Told_by o c) (sym r.0) (of_one (words_of c.words) verb file (Succeeds c) h (succeeds c file verb h d), r.1)
+of_file Usage told verb file c h d r = absurd (no_usage verb file c.store c.store' c.out c.out' d)
+of_file (Absent name) told verb file c h d r =
+    let comes = stops_absent c file verb name h d in
+    announced c (Absent name) (refusal.Absent name.now) refl comes (λ t. inr (name.now, (comes, t))) told r
+of_file (Refused name line rule) told verb file c h d r =
+    let comes = stops_refused c file verb name line rule h d in
+    announced c (Refused name line rule) (refusal.Refused name.now line rule) refl comes (λ t. (name.now, line, rule, (comes, t))) told r
+of_file ReadFault told verb file c h d r =
+    let f = fails_to_read c file verb d in
+    subst (λ o. Told_by o c) (sym r.0) (of_one (words_of c.words) verb file (FailsToRead c) h f.0, f.1, r.1)
+of_file WriteFault told verb file c h d r = subst (λ o. Told_by o c) (sym r.0) (inl (of_one (words_of c.words) verb file (FailsToWrite c) h (fails_to_write c file verb h d), r.1))
+of_file Memory told verb file c h d r = subst (λ o. Told_by o c) (sym r.0) (inl (of_one (words_of c.words) verb file (WantsMemory c) h (wants_memory c file verb h d), r.1))
+
+of_usage : (came told : Answer) (c : Call) → came ≡ Usage → words_of c.words ≡ None → c.store' ≡ c.store → c.out' ≡ c.out → Reports came told c.err c.err' → Answered (status_of told) c
+of_usage came told c e h s o r =
+    let comes : ComesTo c refusal.Usage = (h, s, o) in
+    announced c Usage refusal.Usage refl comes (λ t. inl (comes, t)) told (subst (λ x. Reports x told c.err c.err') e r)
+
+pub answered : (status : ℕ) (came told : Answer) (c : Call) → status ≡ status_of told → Performs came c.words c.store c.store' c.out c.out' → Reports came told c.err c.err' → Answered status c
+answered status came told c e (inl p) r = subst (λ s. Answered s c) (sym e) (of_usage came told c p.0 p.1 p.2 p.3 r)
+answered status came told c e (inr p) r = subst (λ s. Answered s c) (sym e) (of_file came told p.0 p.1 c p.2 p.3 r)

@@ -1,29 +1,16 @@
 -- A text that is tried, and another one behind a front of it.
-use Rattle.std.proofs.Common.{ℕ, List, [], Option, Result, Ok, Err, sym, subst, arith, append-nil}
+use Rattle.std.proofs.Common.{ℕ, List, Option, Result, Ok, Err}
 use Rattle.lf_base.specs.declared.fault.PutFault.{PutFault}
-use Rattle.lf_base.specs.declared.fault.PutFault.TheVariants.{Failed, Memory}
-use Rattle.lf_base.specs.Causes.{Rose}
-use Rattle.lf_base.specs.Contents.{Appends, AppendsPart}
 use Rattle.lf_base.specs.Puts.{Puts, Causes}
-use Rattle.lf_driver.specs.Ends.{GainsBoth}
+use Rattle.lf_driver.specs.Call.{Tries, Tells, TellsInstead, held}
 
-pub part_of_whole : (a b : Option (List ℕ)) (t : List ℕ) → Appends a b t → AppendsPart a b t
-part_of_whole a b t h = record { bytes = λ held e. (t, [], sym (append-nil t), h.bytes held e) }
+pub tells : (a b : Option (List ℕ)) (m n : ℕ) (t : List ℕ) → Puts (Ok tt) (Ok tt) a b t → Causes (Ok tt) (Ok tt) m n → Tells (held a m) (held b n) t
+tells a b m n t h k = record { gains = h; counts = k }
 
-pub tried : (r : Result (Unit {0}) PutFault) (a b : Option (List ℕ)) (t : List ℕ) → Puts (Ok tt) r a b t → AppendsPart a b t
-tried (Ok u) a b t h = part_of_whole a b t h.step
-tried (Err e) a b t h = h.step
+pub tries : (r : Result (Unit {0}) PutFault) (a b : Option (List ℕ)) (m n : ℕ) (t : List ℕ) → Puts (Ok tt) r a b t → Causes (Ok tt) r m n → Tries (held a m) (held b n) t
+tries r a b m n t h k = (r, record { gains = h; counts = k })
 
-rose_twice : (l m n : ℕ) → Rose l m → Rose m n → Rose l n
-rose_twice l m n h k = grind (arith)
+pub tells_instead : (fault : PutFault) (r : Result (Unit {0}) PutFault) (a b c : Option (List ℕ)) (l m n : ℕ) (s t : List ℕ) → Puts (Ok tt) (Err fault) a b s → Causes (Ok tt) (Err fault) l m → Puts (Ok tt) r b c t → Causes (Ok tt) r m n → TellsInstead fault (held a l) (held c n) s t
+tells_instead fault r a b c l m n s t h k i j = (held b m, record { gains = h; counts = k }, tries r b c m n t i j)
 
--- a count that rose has risen after another call
-pub still_rose : (r : Result (Unit {0}) PutFault) (l m n : ℕ) → Rose l m → Causes (Ok tt) r m n → Rose l n
-still_rose (Ok u) l m n h k = subst (Rose l) (sym k.cause) h
-still_rose (Err Memory) l m n h k = subst (Rose l) (sym k.cause) h
-still_rose (Err Failed) l m n h k = rose_twice l m n h k.cause
-
-pub gains_both : (r : Result (Unit {0}) PutFault) (a b c : Option (List ℕ)) (s t : List ℕ) → AppendsPart a b s → Puts (Ok tt) r b c t → GainsBoth a c s t
-gains_both r a b c s t h k = (b, h, tried r b c t k)
-
-pub ruleset tellings = (tried, still_rose, gains_both)
+pub ruleset tellings = (tells, tries, tells_instead)

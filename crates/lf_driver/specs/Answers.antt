@@ -1,119 +1,158 @@
 -- What the status of a call tells, status by status.
-use Rattle.std.specs.Prelude.{◌≡◌, ℕ, zero, suc, ◌-◌, ◌^◌, ◌<◌, ◌≤◌, List, [], ◌∷◌, codes, Option, Some, None, IsSome, ◌⊎◌}
-use Rattle.std.specs.Fmt.{decimal}
-use Rattle.std.specs.FinMap.{insert}
+use Rattle.std.specs.Prelude.{◌≡◌, ℕ, zero, suc, ◌-◌, ◌^◌, ◌<◌, ◌≤◌, List, [], ◌∷◌, ◌++◌, Option, Some, None, ◌⊎◌}
+use Rattle.lf_base.specs.declared.fault.PutFault.{PutFault}
+use Rattle.lf_base.specs.declared.fault.PutFault.TheVariants.{Failed, Memory}
 use Rattle.lf_base.specs.declared.rule.Rule.{Rule}
 use Rattle.lf_base.specs.Causes.{Rose}
-use Rattle.lf_base.specs.Contents.{Appends, AppendsPart, joined}
+use Rattle.lf_base.specs.Contents.{Appends, AppendsPart}
 use Rattle.lf_base.specs.Files.{Files}
-use Rattle.lf_base.specs.Rules.{number_of}
-use Rattle.lf_driver.specs.declared.outcome.Answer.{Answer}
-use Rattle.lf_driver.specs.Words.{words_of}
-use Rattle.lf_driver.specs.Verdict.{Verdict, Told, verdict}
-use Rattle.lf_driver.specs.Verdict as judged
-use Rattle.lf_driver.specs.Ends.{ComesTo, Shows, Fronts, GainsBoth, RoseOne, text_of}
+use Rattle.ast_nodes.specs.declared.file.File.{File}
+use Rattle.ast_nodes.specs.Text.{ast_text}
+use Rattle.lf_driver.specs.declared.command.Verb.{Verb}
+use Rattle.lf_driver.specs.declared.command.Verb.TheVariants.{Compile, Ast}
+use Rattle.lf_driver.specs.Call.{Stored, Held, Call, Tries, Tells, TellsInstead}
+use Rattle.lf_driver.specs.Refusal.{Refusal, refusal_text, read_fault_text, write_fault_text, memory_text}
+use Rattle.lf_driver.specs.Refusal as refusal
+use Rattle.lf_driver.specs.Verdict.{Verdict, Refuses, Compiled, Shown, Told, AreWritten, c_name, verdict}
+use Rattle.lf_driver.specs.Words.{CommandText, words_of}
 
--- a call: its words, and what it finds and leaves
-pub record Call : Type 0 where
-  pub words : List (List ℕ)
-  -- the files of the store
-  pub old : Option Files
-  pub new : Option Files
-  -- the store's count of failed reads
-  pub reads : ℕ
-  pub reads' : ℕ
-  -- the store's count of failed writes
-  pub writes : ℕ
-  pub writes' : ℕ
-  -- what the sink of the trees holds
-  pub shown : Option (List ℕ)
-  pub shown' : Option (List ℕ)
-  -- its count of failed writes
-  pub puts : ℕ
-  pub puts' : ℕ
-  -- what the sink of the texts that tell holds
-  pub held : Option (List ℕ)
-  pub held' : Option (List ℕ)
-  -- its count of failed writes
-  pub faults : ℕ
-  pub faults' : ℕ
+-- the verdict on the words, where the store tells its files
+abbrev pub Judges : Call → Verdict → Type 0
+Judges c v = Told c.store.files (λ files. verdict c.words files ≡ v)
 
-abbrev pub absent_text : List ℕ → List ℕ
-absent_text name = joined (codes "lf: no such file: " ∷ name ∷ codes "\n" ∷ [])
+-- a fact of the command that the words are
+abbrev pub OfCommand : Option CommandText → (Verb → List (List ℕ) → Type 0) → Type 0
+OfCommand None fact = ⊥
+OfCommand (Some command) fact = fact command.0 command.2
 
-abbrev pub refused_text : List ℕ → ℕ → Rule → List ℕ
-refused_text name line rule = joined (name ∷ codes ":" ∷ decimal line ∷ codes ": E" ∷ joined (decimal (number_of rule) ∷ codes "\n" ∷ []) ∷ [])
+-- All files of a list are compiled: the store has what they write, and nothing is pending.
+pub record IsCompiled (names : List (List ℕ)) (old new : Stored) : Type 0 where
+  pub files : Told old.files (AreWritten names new.files)
+  pub pending : new.pending ≡ None
+  pub reads : new.reads ≡ old.reads
+  pub writes : new.writes ≡ old.writes
+
+-- The same, and where there is no file all is as it was.
+abbrev pub IsBehind : List (List ℕ) → Stored → Stored → Type 0
+IsBehind [] old new = new ≡ old
+IsBehind (file ∷ names) old new = IsCompiled (file ∷ names) old new
+
+-- The files of a list are compiled in turn, and at one of them the call ends so.
+pub record Halts (Ends : List ℕ → Stored → Stored → Type 0) (names : List (List ℕ)) (old new : Stored) : Type 0 where
+  pub front : List (List ℕ)
+  pub file : List ℕ
+  pub rest : List (List ℕ)
+  pub is : names ≡ front ++ (file ∷ rest)
+  pub between : Stored
+  pub behind : IsBehind front old between
+  pub ends : Ends file between new
+
+-- No file is begun, and nothing is counted.
+abbrev pub IsUntouched : List ℕ → Stored → Stored → Type 0
+IsUntouched file old new = new ≡ old
+
+-- A read failed, and nothing else has changed.
+pub record IsUnread (file : List ℕ) (old new : Stored) : Type 0 where
+  pub files : new.files ≡ old.files
+  pub pending : new.pending ≡ old.pending
+  pub bytes : new.bytes ≡ old.bytes
+  pub reads : Rose old.reads new.reads
+  pub writes : new.writes ≡ old.writes
+
+-- what is pending: what was, or nothing, or the C file of this source
+abbrev pub IsBegun : List ℕ → Option (List ℕ) → Option (List ℕ) → Type 0
+IsBegun file old new = (new ≡ old) ⊎ ((new ≡ None) ⊎ (new ≡ Some (c_name file)))
+
+-- A write failed before the C file was finished.
+pub record IsUnwritten (file : List ℕ) (old new : Stored) : Type 0 where
+  pub files : new.files ≡ old.files
+  pub pending : IsBegun file old.pending new.pending
+  pub reads : new.reads ≡ old.reads
+  pub writes : Rose old.writes new.writes
+
+-- Memory ran out before the C file was finished.
+pub record IsCutShort (file : List ℕ) (old new : Stored) : Type 0 where
+  pub files : new.files ≡ old.files
+  pub pending : IsBegun file old.pending new.pending
+  pub reads : new.reads ≡ old.reads
+  pub writes : new.writes ≡ old.writes
+
+-- The sink of the trees has gained the text of the tree, or a front of it.
+abbrev pub ShowsTree : Call → Type 0
+ShowsTree c = (tree : File) × Judges c (Shown (ast_text tree)) × Appends c.out.bytes c.out'.bytes (ast_text tree)
+
+abbrev pub ShowsFront : Call → Type 0
+ShowsFront c = (tree : File) × Judges c (Shown (ast_text tree)) × AppendsPart c.out.bytes c.out'.bytes (ast_text tree)
+
+-- 0: all files are compiled, or the tree is shown.
+abbrev pub Succeeds : Call → Verb → List (List ℕ) → Type 0
+Succeeds c Compile names = IsCompiled names c.store c.store' × (c.out' ≡ c.out)
+Succeeds c Ast names = (c.store' ≡ c.store) × (c.out'.faults ≡ c.out.faults) × ShowsTree c
+
+-- A file is refused: those before it are compiled, and of it none is begun.
+abbrev pub StopsAt : Call → Verb → List (List ℕ) → Type 0
+StopsAt c Compile names = Halts IsUntouched names c.store c.store'
+StopsAt c Ast names = c.store' ≡ c.store
+
+-- what a call does that ends by this refusal
+abbrev pub ComesTo : Call → Refusal → Type 0
+ComesTo c refusal.Usage = (words_of c.words ≡ None) × (c.store' ≡ c.store) × (c.out' ≡ c.out)
+ComesTo c (refusal.Absent name) = OfCommand (words_of c.words) (StopsAt c) × (c.out' ≡ c.out) × Judges c (Refuses (refusal.Absent name))
+ComesTo c (refusal.Refused name line rule) = OfCommand (words_of c.words) (StopsAt c) × (c.out' ≡ c.out) × Judges c (Refuses (refusal.Refused name line rule))
+
+abbrev pub IsRefused : Call → Refusal → Type 0
+IsRefused c refusal = ComesTo c refusal × Tells c.err c.err' (refusal_text refusal)
+
+abbrev pub FailsToRead : Call → Verb → List (List ℕ) → Type 0
+FailsToRead c Compile names = Halts IsUnread names c.store c.store'
+FailsToRead c Ast names = IsUnread [] c.store c.store'
+
+-- The store could not be written, or the sink of the trees.
+abbrev pub FailsToWrite : Call → Verb → List (List ℕ) → Type 0
+FailsToWrite c Compile names = Halts IsUnwritten names c.store c.store' × (c.out' ≡ c.out)
+FailsToWrite c Ast names = (c.store' ≡ c.store) × Rose c.out.faults c.out'.faults × ShowsFront c
+
+abbrev pub WantsMemory : Call → Verb → List (List ℕ) → Type 0
+WantsMemory c Compile names = Halts IsCutShort names c.store c.store' × (c.out' ≡ c.out)
+WantsMemory c Ast names = (c.store' ≡ c.store) × (c.out'.faults ≡ c.out.faults) × ((c.out'.bytes ≡ c.out.bytes) ⊎ ShowsFront c)
+
+-- The text of a refusal could not be written by this fault, and another one was tried.
+abbrev pub IsUntold : PutFault → Call → List ℕ → Type 0
+IsUntold fault c text = (refused : Refusal) × ComesTo c refused × TellsInstead fault c.err c.err' (refusal_text refused) text
+
+-- 0: done. 1: a file breaks a rule. 2: there is no such command or file. 3: a read failed. 4: a write failed. 5: memory ran
+-- out.
+abbrev pub Answered : ℕ → Call → Type 0
+Answered zero c = OfCommand (words_of c.words) (Succeeds c) × (c.err' ≡ c.err)
+Answered (suc zero) c = (name : List ℕ) × (line : ℕ) × (rule : Rule) × IsRefused c (refusal.Refused name line rule)
+Answered (suc (suc zero)) c = IsRefused c refusal.Usage ⊎ ((name : List ℕ) × IsRefused c (refusal.Absent name))
+Answered (suc (suc (suc zero))) c = OfCommand (words_of c.words) (FailsToRead c) × (c.out' ≡ c.out) × Tries c.err c.err' read_fault_text
+Answered (suc (suc (suc (suc zero)))) c = (OfCommand (words_of c.words) (FailsToWrite c) × Tries c.err c.err' write_fault_text) ⊎ IsUntold Failed c write_fault_text
+Answered (suc (suc (suc (suc (suc zero))))) c = (OfCommand (words_of c.words) (WantsMemory c) × Tries c.err c.err' memory_text) ⊎ IsUntold Memory c memory_text
+Answered (suc (suc (suc (suc (suc (suc status)))))) c = ⊥
 
 -- no count rose
 abbrev pub Quiet : Call → Type 0
-Quiet c = (c.reads' ≡ c.reads) × (c.writes' ≡ c.writes) × (c.puts' ≡ c.puts) × (c.faults' ≡ c.faults)
-
--- the files and the sink of the trees are as they were
-abbrev pub Untouched : Call → Type 0
-Untouched c = (c.new ≡ c.old) × (c.shown' ≡ c.shown)
-
--- The C file of the words is among the files, and nothing else has changed.
-abbrev pub AnswersWritten : Call → Type 0
-AnswersWritten c =
-    (c.shown' ≡ c.shown) × Told c.old (λ files. (name : List ℕ) × (bytes : List ℕ) × (verdict c.words files ≡ judged.Done name bytes) × (c.new ≡ Some (insert files name bytes)))
-
--- The sink of the trees has gained the text of the tree of the words, and no file has changed.
-abbrev pub AnswersShown : Call → Type 0
-AnswersShown c = Shows c.words c.old c.new c.shown c.shown'
-
--- the words are no command
-abbrev pub AnswersUsage : Call → Type 0
-AnswersUsage c = (words_of c.words ≡ None) × Untouched c × Appends c.held c.held' (codes "lf: usage: COMMAND [--turns=N] FILE ...\n") × Quiet c
-
--- the file that the words name is not there
-abbrev pub AnswersAbsent : Call → Type 0
-AnswersAbsent c =
-    IsSome (words_of c.words) × Untouched c × ((name : List ℕ) × Told c.old (λ files. verdict c.words files ≡ judged.Absent name) × Appends c.held c.held' (absent_text name)) × Quiet c
-
--- a text that told what had come could not be written, and this one was tried behind a front of it
-abbrev pub InPlace : Call → List ℕ → Type 0
-InPlace c text = (came : Answer) × ComesTo came c.words c.old c.new c.shown c.shown' × GainsBoth c.held c.held' (text_of came) text
-
--- the store could not be written, or the sink of the trees, which has gained a front of its text
-abbrev pub AnswersStuck : Call → Type 0
-AnswersStuck c = RoseOne c.writes c.writes' c.puts c.puts' × Fronts c.words c.old c.shown c.shown' × AppendsPart c.held c.held' (codes "lf: write fault\n")
-
--- the text that tells what came could not be written
-abbrev pub AnswersUntold : Call → Type 0
-AnswersUntold c = (c.writes' ≡ c.writes) × (c.puts' ≡ c.puts) × (c.shown' ≡ c.shown) × Rose c.faults c.faults' × InPlace c (codes "lf: write fault\n")
-
--- 0: the files are those of before, with the C file of the words under its name, or the tree of the words was printed. 1:
--- the file breaks a rule. 2: there is no such command or file. 3: a read failed. 4: a write failed. 5: memory ran out.
--- Only 0 changes the files, and only 0, 4 and 5 print of a tree.
-abbrev pub Answered : ℕ → Call → Type 0
-Answered zero c = IsSome (words_of c.words) × (AnswersWritten c ⊎ AnswersShown c) × (c.held' ≡ c.held) × Quiet c
-Answered (suc zero) c =
-    IsSome (words_of c.words) × Untouched c × ((name : List ℕ) × (line : ℕ) × (rule : Rule) × Told c.old (λ files. verdict c.words files ≡ judged.Refused name line rule) × Appends c.held c.held' (refused_text name line rule)) × Quiet c
-Answered (suc (suc zero)) c = AnswersUsage c ⊎ AnswersAbsent c
-Answered (suc (suc (suc zero))) c = Untouched c × Rose c.reads c.reads' × (c.writes' ≡ c.writes) × (c.puts' ≡ c.puts) × AppendsPart c.held c.held' (codes "lf: read fault\n")
-Answered (suc (suc (suc (suc zero)))) c = (c.new ≡ c.old) × (c.reads' ≡ c.reads) × (AnswersStuck c ⊎ AnswersUntold c)
-Answered (suc (suc (suc (suc (suc zero))))) c =
-    (c.new ≡ c.old) × (c.reads' ≡ c.reads) × (c.writes' ≡ c.writes) × (c.puts' ≡ c.puts) × Fronts c.words c.old c.shown c.shown' × (AppendsPart c.held c.held' (codes "lf: out of memory\n") ⊎ InPlace c (codes "lf: out of memory\n"))
-Answered (suc (suc (suc (suc (suc (suc status)))))) c = ⊥
+Quiet c = (c.store'.reads ≡ c.store.reads) × (c.store'.writes ≡ c.store.writes) × (c.out'.faults ≡ c.out.faults) × (c.err'.faults ≡ c.err.faults)
 
 -- no count stood at its greatest number, where it cannot rise
 abbrev pub Counting : Call → Type 0
-Counting c = (c.reads < 2 ^ 64 - 1) × (c.writes < 2 ^ 64 - 1) × (c.puts < 2 ^ 64 - 1) × (c.faults < 2 ^ 64 - 1)
+Counting c = (c.store.reads < 2 ^ 64 - 1) × (c.store.writes < 2 ^ 64 - 1) × (c.out.faults < 2 ^ 64 - 1) × (c.err.faults < 2 ^ 64 - 1)
 
 -- the status of a verdict
 abbrev pub status_by : Verdict → ℕ
-status_by (judged.Done name bytes) = 0
-status_by (judged.Shown text) = 0
-status_by (judged.Refused name line rule) = 1
-status_by (judged.Absent name) = 2
-status_by judged.Usage = 2
+status_by (Compiled files) = 0
+status_by (Shown text) = 0
+status_by (Refuses (refusal.Refused name line rule)) = 1
+status_by (Refuses (refusal.Absent name)) = 2
+status_by (Refuses refusal.Usage) = 2
 
 -- Where the store tells its files and no count rose, the status is the verdict's, or memory ran out.
 abbrev pub IsExact : ℕ → Call → Type 0
-IsExact status c = (files : Files) → c.old ≡ Some files → Quiet c → Counting c → (status ≡ status_by (verdict c.words files)) ⊎ (status ≡ 5)
+IsExact status c = (files : Files) → c.store.files ≡ Some files → Quiet c → Counting c → (status ≡ status_by (verdict c.words files)) ⊎ (status ≡ 5)
 
 -- A count that rises decides the status: 3 by a failed read, 4 by a failed write of the store or of the sink of the trees,
 -- and 3, 4 or 5 where a text that tells could not be written.
 abbrev pub IsCounted : ℕ → Call → Type 0
 IsCounted status c =
-    (c.reads < c.reads' → status ≡ 3) × (c.writes < c.writes' → status ≡ 4) × (c.puts < c.puts' → status ≡ 4) × (c.faults < c.faults' → (3 ≤ status) × (status ≤ 5))
+    (c.store.reads < c.store'.reads → status ≡ 3) × (c.store.writes < c.store'.writes → status ≡ 4) × (c.out.faults < c.out'.faults → status ≡ 4) × (c.err.faults < c.err'.faults → (3 ≤ status) × (status ≤ 5))

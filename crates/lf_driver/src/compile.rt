@@ -2,14 +2,14 @@ ghost use Rattle.std.specs.Prelude.{◌≡◌, true, string_bytes, OnOk, OnErr, 
 ghost use Rattle.lf_base.specs.Causes.{HasCause};
 ghost use Rattle.c_nodes.specs.Text.{file_text};
 ghost use Rattle.lf_driver.specs.Words.{ends_as_source};
-ghost use Rattle.lf_driver.specs.Built.{program_in};
+ghost use Rattle.lf_driver.specs.OnePrint.Built.{program_in};
 ghost use Rattle.lf_driver.specs.Verdict.{c_name};
 ghost use Rattle.lf_driver.specs.Ends.{Counts};
-ghost use Rattle.lf_driver.specs.Compile.{GivesC, GivesText, Saved, TextComesTo, FileComesTo};
+ghost use Rattle.lf_driver.specs.Compile.{GivesC, GivesText, IsPending, IsPendingC, Saved, TextComesTo, FileComesTo, Begins};
 
 use crate::front::read_tree;
+use crate::one_print::unit::lower;
 use crate::outcome::Answer;
-use crate::unit::lower;
 use ast_nodes::File;
 use c_nodes::{CFile, print_c};
 use lf_base::{GetFault, Memory, PutFault, Rule, Store, SureSink, SyntaxFault};
@@ -68,6 +68,7 @@ fn translated(alloc: Global, source: &[u8]) -> Result<SureSink, SyntaxFault>
 fn save<S: Store>(store: &mut S, name: &str, bytes: &[u8]) -> Result<(), PutFault>
     ensures ok { OnOk result (Saved (S.files store.old) name.now bytes.now (S.files store.new)) }
     ensures err { OnErr result (S.files store.new ≡ S.files store.old) }
+    ensures pending { IsPending result name.now (S.pending store.new) }
     ensures read_faults { S.read_faults store.new ≡ S.read_faults store.old }
     ensures cause { HasCause (S.Sink.faults store.old) (S.Sink.faults store.new) result }
 {
@@ -76,6 +77,7 @@ fn save<S: Store>(store: &mut S, name: &str, bytes: &[u8]) -> Result<(), PutFaul
     store.finish()
 }
 
+#[tactic(auto, using(crate::proofs::Saving::pending_c))]
 fn write_file<S: Store>(
     alloc: Global,
     file: &str,
@@ -85,6 +87,7 @@ fn write_file<S: Store>(
     requires { ends_as_source file.now ≡ true }
     ensures ok { OnOk result (Saved (S.files store.old) (c_name file.now) text.now (S.files store.new)) }
     ensures err { OnErr result (S.files store.new ≡ S.files store.old) }
+    ensures pending { IsPendingC result file.now (S.pending store.old) (S.pending store.new) }
     ensures read_faults { S.read_faults store.new ≡ S.read_faults store.old }
     ensures cause { HasCause (S.Sink.faults store.old) (S.Sink.faults store.new) result }
 {
@@ -104,6 +107,7 @@ fn finish_file<'a, S: Store>(
 ) -> Answer<'a>
     requires { ends_as_source file.now ≡ true }
     ensures comes { TextComesTo result file.now bytes.now (S.files store.old) (S.files store.new) }
+    ensures pending { Begins result file.now (S.pending store.old) (S.pending store.new) (S.contents store.old) (S.contents store.new) }
     ensures counts { Counts result (S.read_faults store.old) (S.read_faults store.new) (S.Sink.faults store.old) (S.Sink.faults store.new) }
 {
     match translated(alloc, bytes) {
@@ -122,10 +126,11 @@ fn finish_file<'a, S: Store>(
 }
 
 /// What comes of a file of this name. The files of the store change only where it is `Done`.
-#[tactic(auto, using(crate::proofs::Saving::too_long, crate::proofs::Saving::none_there, crate::proofs::Saving::text_there, crate::proofs::Saving::counts_after))]
+#[tactic(auto, using(crate::proofs::Saving::too_long, crate::proofs::Saving::none_there, crate::proofs::Saving::text_there, crate::proofs::Saving::counts_after, crate::proofs::Saving::begins_after))]
 pub(crate) fn compile_file<'a, S: Store>(alloc: Global, file: &'a str, store: &mut S) -> Answer<'a>
     requires { ends_as_source file.now ≡ true }
     ensures comes { FileComesTo result file.now (S.files store.old) (S.files store.new) }
+    ensures pending { Begins result file.now (S.pending store.old) (S.pending store.new) (S.contents store.old) (S.contents store.new) }
     ensures counts { Counts result (S.read_faults store.old) (S.read_faults store.new) (S.Sink.faults store.old) (S.Sink.faults store.new) }
 {
     match store.read(alloc, file) {

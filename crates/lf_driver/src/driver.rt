@@ -1,7 +1,7 @@
-ghost use Rattle.std.specs.Prelude.{◌≡◌, true, false, map, string_bytes};
-ghost use Rattle.lf_driver.specs.Answers.{Answered, IsCounted, IsExact};
-ghost use Rattle.lf_driver.specs.Ends.{ComesTo, CountsAll, VerbComesTo};
-ghost use Rattle.lf_driver.specs.Headline.{KeepsMeaning};
+ghost use Rattle.std.specs.Prelude.{◌≡◌, true, false, None, map, string_bytes};
+ghost use Rattle.lf_driver.specs.Call.{held, stored};
+ghost use Rattle.lf_driver.specs.Ends.{Performs, VerbBegins, VerbComesTo, VerbCounts};
+ghost use Rattle.lf_driver.specs.Headline.{Promises};
 ghost use Rattle.lf_driver.specs.Words.{ends_as_source, words_of, shown_by, shows};
 
 use crate::command::{Verb, words as read_words};
@@ -12,7 +12,6 @@ use lf_base::{Sink, Source, Store};
 use std::alloc::Global;
 
 // What comes of a file by the verb.
-#[tactic(auto, using(crate::proofs::Doing::counts_compiled, crate::proofs::Doing::counts_shown))]
 fn do_file<'a, S: Store, O: Sink>(
     alloc: Global,
     verb: Verb,
@@ -22,8 +21,10 @@ fn do_file<'a, S: Store, O: Sink>(
 ) -> Answer<'a>
     requires { ends_as_source file.now ≡ true }
     ensures comes { VerbComesTo result verb file.now (S.files store.old) (S.files store.new) (O.contents out.old) (O.contents out.new) }
-    ensures counts { CountsAll result (S.read_faults store.old) (S.read_faults store.new) (S.Sink.faults store.old) (S.Sink.faults store.new) (O.faults out.old) (O.faults out.new) }
+    ensures pending { VerbBegins result verb file.now (S.pending store.old) (S.pending store.new) (S.contents store.old) (S.contents store.new) }
+    ensures counts { VerbCounts result verb (S.read_faults store.old) (S.read_faults store.new) (S.Sink.faults store.old) (S.Sink.faults store.new) (O.faults out.old) (O.faults out.new) }
     ensures out { shown_by verb ≡ false → out.new ≡ out.old }
+    ensures keeps { O.keeps out.old out.new }
 {
     match verb {
         Verb::Compile => compile_file(alloc, file, store),
@@ -31,18 +32,18 @@ fn do_file<'a, S: Store, O: Sink>(
     }
 }
 
-// What comes of the words. The files of the store change only where it is `Done`, and what the sink holds
-// only where a tree is printed.
-#[tactic(auto, using(crate::proofs::Doing::command_files))]
+// What comes of the words. Words that are no command leave all as it is.
+#[tactic(auto, using(crate::proofs::Names::command_files))]
 fn perform<'a, S: Store, O: Sink>(
     alloc: Global,
     words: &'a [String],
     store: &mut S,
     out: &mut O,
 ) -> Answer<'a>
-    ensures comes { ComesTo result (map string_bytes words.now) (S.files store.old) (S.files store.new) (O.contents out.old) (O.contents out.new) }
-    ensures counts { CountsAll result (S.read_faults store.old) (S.read_faults store.new) (S.Sink.faults store.old) (S.Sink.faults store.new) (O.faults out.old) (O.faults out.new) }
+    ensures comes { Performs result (map string_bytes words.now) (stored (S.files store.old) (S.pending store.old) (S.contents store.old) (S.read_faults store.old) (S.Sink.faults store.old)) (stored (S.files store.new) (S.pending store.new) (S.contents store.new) (S.read_faults store.new) (S.Sink.faults store.new)) (held (O.contents out.old) (O.faults out.old)) (held (O.contents out.new) (O.faults out.new)) }
+    ensures usage { words_of (map string_bytes words.now) ≡ None → store.new ≡ store.old }
     ensures out { shows (words_of (map string_bytes words.now)) ≡ false → out.new ≡ out.old }
+    ensures keeps { O.keeps out.old out.new }
 {
     match read_words(words) {
         Err(_) => Answer::Usage,
@@ -54,6 +55,14 @@ fn perform<'a, S: Store, O: Sink>(
 }
 
 /// Does what the words say and answers the status.
+///
+/// - 0: `compile` has written the C file of each source, or `ast` has shown the tree.
+/// - 1: a source breaks a rule, which is told with its line.
+/// - 2: the words are no command, or name a file that is not there.
+/// - 3: a read failed. 4: a write failed. 5: memory ran out.
+///
+/// Words that are no command leave the store, the input and the output as they were. `ast` and a source that is refused
+/// begin no file. At 0 of `compile` the C files mean what the sources say, where the store tells its files.
 pub fn lf_main<S: Store, I: Source, O: Sink, E: Sink>(
     alloc: Global,
     words: &[String],
@@ -62,12 +71,12 @@ pub fn lf_main<S: Store, I: Source, O: Sink, E: Sink>(
     out: &mut O,
     err: &mut E,
 ) -> u8
-    ensures answered { Answered result (record { words = map string_bytes words.now; old = S.files store.old; new = S.files store.new; reads = S.read_faults store.old; reads' = S.read_faults store.new; writes = S.Sink.faults store.old; writes' = S.Sink.faults store.new; shown = O.contents out.old; shown' = O.contents out.new; puts = O.faults out.old; puts' = O.faults out.new; held = E.contents err.old; held' = E.contents err.new; faults = E.faults err.old; faults' = E.faults err.new }) }
-    ensures exact { IsExact result (record { words = map string_bytes words.now; old = S.files store.old; new = S.files store.new; reads = S.read_faults store.old; reads' = S.read_faults store.new; writes = S.Sink.faults store.old; writes' = S.Sink.faults store.new; shown = O.contents out.old; shown' = O.contents out.new; puts = O.faults out.old; puts' = O.faults out.new; held = E.contents err.old; held' = E.contents err.new; faults = E.faults err.old; faults' = E.faults err.new }) }
-    ensures counted { IsCounted result (record { words = map string_bytes words.now; old = S.files store.old; new = S.files store.new; reads = S.read_faults store.old; reads' = S.read_faults store.new; writes = S.Sink.faults store.old; writes' = S.Sink.faults store.new; shown = O.contents out.old; shown' = O.contents out.new; puts = O.faults out.old; puts' = O.faults out.new; held = E.contents err.old; held' = E.contents err.new; faults = E.faults err.old; faults' = E.faults err.new }) }
-    ensures meaning { KeepsMeaning result (record { words = map string_bytes words.now; old = S.files store.old; new = S.files store.new; reads = S.read_faults store.old; reads' = S.read_faults store.new; writes = S.Sink.faults store.old; writes' = S.Sink.faults store.new; shown = O.contents out.old; shown' = O.contents out.new; puts = O.faults out.old; puts' = O.faults out.new; held = E.contents err.old; held' = E.contents err.new; faults = E.faults err.old; faults' = E.faults err.new }) }
-    ensures input { input.new ≡ input.old }
+    ensures call { Promises result (record { words = map string_bytes words.now; store = stored (S.files store.old) (S.pending store.old) (S.contents store.old) (S.read_faults store.old) (S.Sink.faults store.old); store' = stored (S.files store.new) (S.pending store.new) (S.contents store.new) (S.read_faults store.new) (S.Sink.faults store.new); out = held (O.contents out.old) (O.faults out.old); out' = held (O.contents out.new) (O.faults out.new); err = held (E.contents err.old) (E.faults err.old); err' = held (E.contents err.new) (E.faults err.new) }) }
+    ensures usage { words_of (map string_bytes words.now) ≡ None → store.new ≡ store.old }
     ensures out { shows (words_of (map string_bytes words.now)) ≡ false → out.new ≡ out.old }
+    ensures input { input.new ≡ input.old }
+    ensures keeps_out { O.keeps out.old out.new }
+    ensures keeps_err { E.keeps err.old err.new }
 {
     let came = perform(alloc, words, store, out);
     let told = report(err, came);

@@ -1,4 +1,4 @@
-ghost use Rattle.lf_driver.specs.Compile.{GivesFile};
+ghost use Rattle.lf_driver.specs.Front.{GivesFile};
 ghost use Rattle.lf_driver.specs.Front.{front_of};
 
 use ast_nodes::File;

@@ -1,15 +1,24 @@
 //! Laws of the definitions: each is the contract of a function that does nothing.
 
-ghost use Rattle.std.specs.Prelude.{[], ◌∷◌, ℕ, ◌<◌, ◌^◌, length};
+ghost use Rattle.std.specs.Prelude.{◌≡◌, [], ◌∷◌, ℕ, ◌<◌, ◌^◌, List, Some, length};
 ghost use Rattle.lf_base.specs.Near.{Agree};
 ghost use Rattle.lf_base.specs.Outcome.{Location};
 ghost use Rattle.c_semantics.specs.CMeaning.{CMeaning};
-ghost use Rattle.lf_driver.specs.Fortran.{FortranMeaning, IsSmall};
-ghost use Rattle.lf_driver.specs.Lowered.{count, lowered_file};
-ghost use Rattle.lf_driver.specs.Source.{Source};
+ghost use Rattle.lf_driver.specs.declared.command.Verb.{Verb};
+ghost use Rattle.lf_driver.specs.Answers.{Answered};
+ghost use Rattle.lf_driver.specs.Call.{Call};
+ghost use Rattle.lf_driver.specs.OnePrint.Fortran.{FortranMeaning, IsSmall};
+ghost use Rattle.lf_driver.specs.OnePrint.Lowered.{count, lowered_file};
+ghost use Rattle.lf_driver.specs.OnePrint.Source.{Source};
+ghost use Rattle.lf_driver.specs.Words.{words_of};
 
 /// The C file of a program and the program agree: within stated bounds each gives the other's output, status
 /// and trap, and neither is ever stuck or undefined.
 pub fn c_file_agrees()
     ensures { (location : Location) (source : Source) → IsSmall source.value → count source.value < 2 ^ 70 → length source.name < 2 ^ 64 → Agree (FortranMeaning location source) (CMeaning (lowered_file source ∷ [])) }
+{}
+
+/// Where the words name one file, each status but 0 leaves the files of the store as they were.
+pub fn files_stay()
+    ensures { (status : ℕ) (c : Call) (verb : Verb) (file : List ℕ) → words_of c.words ≡ Some (verb, 0, file ∷ []) → Answered status c → 0 < status → c.store'.files ≡ c.store.files }
 {}

@@ -1,9 +1,9 @@
 ghost use Rattle.std.specs.Prelude.{◌≡◌, Ok, OnOk, OnErr, [], ◌∷◌, codes};
 ghost use Rattle.std.specs.Fmt.{decimal};
-ghost use Rattle.lf_base.specs.Contents.{Appends, AppendsPart, joined};
-ghost use Rattle.lf_base.specs.Causes.{HasCause};
+ghost use Rattle.lf_base.specs.Contents.{joined};
 ghost use Rattle.lf_base.specs.Puts.{Puts, Causes};
 ghost use Rattle.lf_base.specs.Rules.{number_of};
+ghost use Rattle.lf_driver.specs.Call.{held};
 ghost use Rattle.lf_driver.specs.Ends.{status_of, text_of, TellsOr, Reports};
 
 use itoa::Buffer;
@@ -35,6 +35,7 @@ type Ended = Result<(), PutFault>;
 fn put<O: Sink>(before: Ended, out: &mut O, piece: &[u8]) -> Ended
     ensures text { Puts before result (O.contents out.old) (O.contents out.new) piece.now }
     ensures cause { Causes before result (O.faults out.old) (O.faults out.new) }
+    ensures keeps { O.keeps out.old out.new }
 {
     match before {
         Ok(()) => out.put(piece),
@@ -45,6 +46,7 @@ fn put<O: Sink>(before: Ended, out: &mut O, piece: &[u8]) -> Ended
 fn put_number<O: Sink>(before: Ended, out: &mut O, number: u32) -> Ended
     ensures text { Puts before result (O.contents out.old) (O.contents out.new) (decimal number) }
     ensures cause { Causes before result (O.faults out.old) (O.faults out.new) }
+    ensures keeps { O.keeps out.old out.new }
 {
     let mut buffer = Buffer::new();
     put(before, out, buffer.format(number).as_bytes())
@@ -54,6 +56,7 @@ fn put_number<O: Sink>(before: Ended, out: &mut O, number: u32) -> Ended
 fn put_absent<O: Sink>(before: Ended, out: &mut O, name: &[u8]) -> Ended
     ensures text { Puts before result (O.contents out.old) (O.contents out.new) (joined (codes "lf: no such file: " ∷ name.now ∷ codes "\n" ∷ [])) }
     ensures cause { Causes before result (O.faults out.old) (O.faults out.new) }
+    ensures keeps { O.keeps out.old out.new }
 {
     let ended = put(before, out, b"lf: no such file: ");
     let ended = put(ended, out, name);
@@ -64,6 +67,7 @@ fn put_absent<O: Sink>(before: Ended, out: &mut O, name: &[u8]) -> Ended
 fn put_rule<O: Sink>(before: Ended, out: &mut O, rule: Rule) -> Ended
     ensures text { Puts before result (O.contents out.old) (O.contents out.new) (joined (decimal (number_of rule) ∷ codes "\n" ∷ [])) }
     ensures cause { Causes before result (O.faults out.old) (O.faults out.new) }
+    ensures keeps { O.keeps out.old out.new }
 {
     let ended = put_number(before, out, u32::from(rule.number()));
     put(ended, out, b"\n")
@@ -73,6 +77,7 @@ fn put_rule<O: Sink>(before: Ended, out: &mut O, rule: Rule) -> Ended
 fn put_refused<O: Sink>(before: Ended, out: &mut O, name: &[u8], line: u32, rule: Rule) -> Ended
     ensures text { Puts before result (O.contents out.old) (O.contents out.new) (joined (name.now ∷ codes ":" ∷ decimal line ∷ codes ": E" ∷ joined (decimal (number_of rule) ∷ codes "\n" ∷ []) ∷ [])) }
     ensures cause { Causes before result (O.faults out.old) (O.faults out.new) }
+    ensures keeps { O.keeps out.old out.new }
 {
     let ended = put(before, out, name);
     let ended = put(ended, out, b":");
@@ -85,6 +90,7 @@ fn put_refused<O: Sink>(before: Ended, out: &mut O, name: &[u8], line: u32, rule
 fn put_nothing<O: Sink>(before: Ended, out: &mut O) -> Ended
     ensures text { Puts before result (O.contents out.old) (O.contents out.new) (joined []) }
     ensures cause { Causes before result (O.faults out.old) (O.faults out.new) }
+    ensures keeps { O.keeps out.old out.new }
 {
     before
 }
@@ -92,6 +98,7 @@ fn put_nothing<O: Sink>(before: Ended, out: &mut O) -> Ended
 fn put_text<O: Sink>(before: Ended, out: &mut O, outcome: Answer) -> Ended
     ensures text { Puts before result (O.contents out.old) (O.contents out.new) (text_of outcome.entry) }
     ensures cause { Causes before result (O.faults out.old) (O.faults out.new) }
+    ensures keeps { O.keeps out.old out.new }
 {
     match outcome {
         Answer::Done => put_nothing(before, out),
@@ -113,7 +120,8 @@ fn put_text<O: Sink>(before: Ended, out: &mut O, outcome: Answer) -> Ended
 // Tells what came. Where that can't be written, the fault that this is is told in its place.
 #[tactic(auto, using(crate::proofs::Tellings::tellings))]
 fn tell<E: Sink>(err: &mut E, outcome: Answer) -> Result<(), PutFault>
-    ensures { TellsOr outcome.entry result (E.contents err.old) (E.contents err.new) (E.faults err.old) (E.faults err.new) }
+    ensures tells { TellsOr outcome.entry result (held (E.contents err.old) (E.faults err.old)) (held (E.contents err.new) (E.faults err.new)) }
+    ensures keeps { E.keeps err.old err.new }
 {
     match put_text(Ok(()), err, outcome) {
         Ok(()) => Ok(()),
@@ -132,7 +140,8 @@ fn tell<E: Sink>(err: &mut E, outcome: Answer) -> Result<(), PutFault>
 /// tried once.
 #[tactic(auto, using(crate::proofs::Tellings::tellings))]
 pub(crate) fn report<'a, E: Sink>(err: &mut E, outcome: Answer<'a>) -> Answer<'a>
-    ensures { Reports outcome.entry result (E.contents err.old) (E.contents err.new) (E.faults err.old) (E.faults err.new) }
+    ensures reports { Reports outcome.entry result (held (E.contents err.old) (E.faults err.old)) (held (E.contents err.new) (E.faults err.new)) }
+    ensures keeps { E.keeps err.old err.new }
 {
     match outcome {
         Answer::Done => Answer::Done,

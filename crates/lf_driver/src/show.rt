@@ -34,9 +34,10 @@ fn tree_text(alloc: Global, source: &[u8]) -> Result<SureSink, SyntaxFault>
 }
 
 // What comes of a file whose text was read. The whole text is put at once, and only where it could be made.
-#[tactic(auto, using(crate::proofs::Showing::tree_shown, crate::proofs::Showing::front_shown, crate::proofs::Showing::tree_refused, crate::proofs::Showing::no_gain))]
+#[tactic(auto, using(crate::proofs::Showing::tree_shown, crate::proofs::Showing::front_shown, crate::proofs::Showing::tree_refused))]
 fn show_text<'a, O: Sink>(alloc: Global, file: &'a str, source: &[u8], out: &mut O) -> Answer<'a>
     ensures shows { TextShows result file.now source.now (O.contents out.old) (O.contents out.new) }
+    ensures keeps { O.keeps out.old out.new }
     ensures counts { Counts result 0 0 (O.faults out.old) (O.faults out.new) }
 {
     match tree_text(alloc, source) {
@@ -55,7 +56,7 @@ fn show_text<'a, O: Sink>(alloc: Global, file: &'a str, source: &[u8], out: &mut
 }
 
 /// What comes of a file of this name, whose tree is printed. The store is read and not changed.
-#[tactic(auto, using(crate::proofs::Showing::shows_too_long, crate::proofs::Showing::shows_absent, crate::proofs::Showing::shows_nothing, crate::proofs::Showing::text_shows))]
+#[tactic(auto, using(crate::proofs::Showing::shows_too_long, crate::proofs::Showing::shows_absent, crate::proofs::Showing::text_shows))]
 pub(crate) fn show_file<'a, S: Store, O: Sink>(
     alloc: Global,
     file: &'a str,
@@ -63,7 +64,10 @@ pub(crate) fn show_file<'a, S: Store, O: Sink>(
     out: &mut O,
 ) -> Answer<'a>
     ensures shows { FileShows result file.now (S.files store.old) (O.contents out.old) (O.contents out.new) }
+    ensures keeps { O.keeps out.old out.new }
     ensures files { S.files store.new ≡ S.files store.old }
+    ensures pending { S.pending store.new ≡ S.pending store.old }
+    ensures bytes { S.contents store.new ≡ S.contents store.old }
     ensures writes { S.Sink.faults store.new ≡ S.Sink.faults store.old }
     ensures counts { Counts result (S.read_faults store.old) (S.read_faults store.new) (O.faults out.old) (O.faults out.new) }
 {

@@ -1,9 +1,8 @@
 use Rattle.std.proofs.Common.{Some, ap, ◌∙◌, map, string_bytes}
-use Rattle.lf_driver.proofs.Doing.{comes_to_named, command_files}
-use Rattle.lf_driver.proofs.Names.{first_text}
+use Rattle.lf_driver.proofs.Names.{command_files, first_text, performs_named}
 use Rattle.lf_driver.proofs.driver.perform.Goals as goal
 
 pub returns-in-len1-up-clause-comes : goal.returns-in-len1-up-clause-comes
 returns-in-len1-up-clause-comes g c =
     let f = command_files (map string_bytes c.args.words.now) _ c.in-Ok.ensures in
-    comes_to_named c.do_file.result c.in-Ok.command.verb (map string_bytes c.args.words.now) f.0 c.as_str.result.now (g.S.Store.files c.args.store.now) (g.S.Store.files c.do_file.new.store) (g.O.Sink.contents c.args.out.now) (g.O.Sink.contents c.do_file.new.out) (c.in-Ok.ensures ∙ ap Some f.3) (c.as_str.ensures.value ∙ first_text c.in-Ok.command.files.now c.file-item.result _ f.0 f.1 c.file-item.is) c.do_file.ensures.comes
+    performs_named c.do_file.result c.in-Ok.command.verb (map string_bytes c.args.words.now) f.0 c.as_str.result.now (c.in-Ok.ensures ∙ ap Some f.3) (c.as_str.ensures.value ∙ first_text c.in-Ok.command.files.now c.file-item.result _ f.0 f.1 c.file-item.is) c.do_file.ensures.comes c.do_file.ensures.pending c.do_file.ensures.counts

@@ -1,4 +1,4 @@
-use Rattle.lf_driver.proofs.Agrees.{agrees}
+use Rattle.lf_driver.proofs.OnePrint.Agrees.{agrees}
 use Rattle.lf_driver.proofs.law.c_file_agrees.Goals as goal
 
 pub returns : goal.returns

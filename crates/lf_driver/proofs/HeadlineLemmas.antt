@@ -1,5 +1,6 @@
 -- The headline, from the law on the printed C.
 use Rattle.std.proofs.Common.{◌≡◌, ℕ, ◌^◌, ◌<◌, List, [], ◌∷◌, Option, Some, None, Ok, Err, inl, inr, cond, refl, sym, ap, subst, ◌∙◌, arith}
+use Rattle.std.specs.List.{AllByRecursion}
 use Rattle.std.specs.Cmp.{eq_by_cmp_equiv}
 use Rattle.std.specs.Cmp.Lexicographic.{nat_list_cmp_total}
 use Rattle.std.specs.FinMap.{get, insert, get-insert}
@@ -22,14 +23,14 @@ use Rattle.lf_driver.specs.Compile.{Compiles}
 use Rattle.lf_driver.specs.Ends.{status_of, Does, Performs, Announces, Reports}
 use Rattle.lf_driver.specs.Front.{then_file}
 use Rattle.lf_driver.specs.Headline.{Listed, IsListed, programs, HaveOneProgram, IsFaithful, Means, KeepsMeaning, Promises}
-use Rattle.lf_driver.specs.OnePrint.Emits.{IsFit}
+use Rattle.lf_driver.specs.OnePrint.Emits.{IsBounded, IsFit}
 use Rattle.lf_driver.specs.OnePrint.Lowered.{c_file}
-use Rattle.lf_driver.specs.OnePrint.Programs.{location_of}
-use Rattle.lf_driver.specs.OnePrint.Source.{Source}
+use Rattle.lf_driver.specs.OnePrint.Source.{Source, location_of, IsLocation}
 use Rattle.lf_driver.specs.Verdict.{c_name}
 use Rattle.lf_driver.specs.Words.{CommandText, words_of}
 use Rattle.lf_driver.proofs.Exact.{told_at, exact, counted}
 use Rattle.lf_driver.proofs.Statuses.{answered}
+use Rattle.lf_driver.proofs.SourceNames.{AreBytes, IsName, named}
 use Rattle.lf_driver.proofs.OnePrint.Agrees.{agrees}
 use Rattle.lf_driver.proofs.OnePrint.Grammatical.{grammatical}
 use Rattle.lf_driver.proofs.OnePrint.Linked.{linked}
@@ -37,9 +38,12 @@ use Rattle.lf_driver.proofs.OnePrint.Linked.{linked}
 wider : (n : ℕ) → n < 2 ^ 64 → n < 2 ^ 70
 wider n h = omega (arith, h)
 
-c_grammatical : (source : Option Source) → IsFit source → IsGrammatical (c_file source)
-c_grammatical None h = prelude_spelled.grammatical
-c_grammatical (Some source) h = grammatical source h.small (wider _ h.few) h.short h.named
+location_is : (file : List ℕ) (source : Source) → IsName file → IsBounded source → IsLocation (location_of file source)
+location_is file source name h = record { short = name.short; bytes = name.bytes; small = h.line }
+
+c_grammatical : (file : List ℕ) (source : Option Source) → IsName file → IsFit source → IsGrammatical (c_file file source)
+c_grammatical file None name h = prelude_spelled.grammatical
+c_grammatical file (Some source) name h = grammatical (location_of file source) (location_is file source name h) source h.small (wider _ h.few) h.short h.named
 
 abbrev listed_as : List ℕ → File → Option Source → Listed
 listed_as file tree source = record { name = file; tree = tree; built = source }
@@ -49,9 +53,9 @@ no_program file tree h =
     let e : programs (listed_as file tree None ∷ []) ≡ h.0 ∷ [] = h.1 in
     cc
 
-faithful : (file : List ℕ) (tree : File) (source : Option Source) → IsFit source → IsFaithful (listed_as file tree source ∷ [])
-faithful file tree None h = record { linked = λ p. absurd (no_program file tree p); agrees = λ p. absurd (no_program file tree p) }
-faithful file tree (Some source) h = record { linked = λ p. linked source (wider _ h.few) h.short; agrees = λ p. agrees (location_of file source) source h.small (wider _ h.few) h.short }
+faithful : (file : List ℕ) (tree : File) (source : Option Source) → IsName file → IsFit source → IsFaithful (listed_as file tree source ∷ [])
+faithful file tree None name h = record { linked = λ p. absurd (no_program file tree p); agrees = λ p. absurd (no_program file tree p) }
+faithful file tree (Some source) name h = record { linked = λ p. linked (location_of file source) source (wider _ h.few) h.short; agrees = λ p. agrees (location_of file source) (location_is file source name h) source h.small (wider _ h.few) h.short }
 
 -- the statements of a text that has a tree
 parts : (front : Found Spelled) (tree : File) → then_file front ≡ Ok tree → (statements : List (ℕ × List Spelled)) × (front ≡ Ok statements) × (file_in statements ≡ Ok tree)
@@ -62,8 +66,8 @@ parts (Err fault) tree h = absurd (cc)
 inserted : (files : Files) (name bytes : List ℕ) → get (insert files name bytes) name ≡ Some bytes
 inserted files name bytes = get-insert nat_list_cmp_total files name bytes name ∙ ap (λ b. cond b (Some bytes) (get files name)) ((eq_by_cmp_equiv nat_list_cmp_total).refl name)
 
-means : (c : Call) (files : Files) (file : List ℕ) → Compiles file files c.store'.files → Means c files (file ∷ [])
-means c files file k =
+means : (c : Call) (files : Files) (file : List ℕ) → IsName file → Compiles file files c.store'.files → Means c files (file ∷ [])
+means c files file name k =
     let d = k.compiled in
     let p = parts (statements_of k.text) d.tree d.parsed in
     record {
@@ -71,8 +75,8 @@ means c files file k =
       listed = (record { is = refl; text = k.text; statements = p.0; there = k.there; read = source_there k.text p.0 p.1; parsed = found p.0 d.tree p.2; built = d.built }, tt);
       left = insert files (c_name file) k.bytes;
       is_left = k.written;
-      spelled = ((k.bytes, inserted files (c_name file) k.bytes, record { grammatical = c_grammatical d.source d.fits; text = d.is }), tt);
-      faithful = faithful file d.tree d.source d.fits;
+      spelled = ((k.bytes, inserted files (c_name file) k.bytes, record { grammatical = c_grammatical file d.source name d.fits; text = d.is }), tt);
+      faithful = faithful file d.tree d.source name d.fits;
     }
 
 positive : (n k : ℕ) → 0 < n → n ≡ k → k ≡ 0 → ⊥
@@ -114,16 +118,16 @@ compiles c files file came verb e v t d =
 no_words : (o : Option CommandText) (command : CommandText) → o ≡ None → o ≡ Some command → ⊥
 no_words o command h k = cc
 
-means_all : (came : Answer) (c : Call) (files : Files) (names : List (List ℕ)) → came ≡ Done → c.store.files ≡ Some files → words_of c.words ≡ Some (Compile, 0, names) → Performs came c.words c.store c.store' c.out c.out' → Means c files names
-means_all came c files names e t w (inl p) = absurd (no_words (words_of c.words) (Compile, 0, names) p.1 w)
-means_all came c files names e t w (inr p) =
+means_all : (came : Answer) (c : Call) (files : Files) (names : List (List ℕ)) → AllByRecursion AreBytes c.words → came ≡ Done → c.store.files ≡ Some files → words_of c.words ≡ Some (Compile, 0, names) → Performs came c.words c.store c.store' c.out c.out' → Means c files names
+means_all came c files names b e t w (inl p) = absurd (no_words (words_of c.words) (Compile, 0, names) p.1 w)
+means_all came c files names b e t w (inr p) =
     let same = sym p.2 ∙ w in
-    subst (Means c files) (ap names_of same) (means c files p.1 (compiles c files p.1 came p.0 e (ap verb_of same) t p.3))
+    subst (Means c files) (ap names_of same) (means c files p.1 (named c.words b p.0 p.1 p.2) (compiles c files p.1 came p.0 e (ap verb_of same) t p.3))
 
-keeps_meaning : (status : ℕ) (came told : Answer) (c : Call) → status ≡ status_of told → Performs came c.words c.store c.store' c.out c.out' → Reports came told c.err c.err' → KeepsMeaning status c
-keeps_meaning status came told c e k r z files t names w = means_all came c files names (came_done came told c.err c.err' r (sym e ∙ z)) t w k
+keeps_meaning : (status : ℕ) (came told : Answer) (c : Call) → AllByRecursion AreBytes c.words → status ≡ status_of told → Performs came c.words c.store c.store' c.out c.out' → Reports came told c.err c.err' → KeepsMeaning status c
+keeps_meaning status came told c b e k r z files t names w = means_all came c files names b (came_done came told c.err c.err' r (sym e ∙ z)) t w k
 
-pub promises : (status : ℕ) (came told : Answer) (c : Call) → status ≡ status_of told → Performs came c.words c.store c.store' c.out c.out' → Reports came told c.err c.err' → Promises status c
-promises status came told c e k r =
+pub promises : (status : ℕ) (came told : Answer) (c : Call) → AllByRecursion AreBytes c.words → status ≡ status_of told → Performs came c.words c.store c.store' c.out c.out' → Reports came told c.err c.err' → Promises status c
+promises status came told c b e k r =
     let a = answered status came told c e k r in
-    record { answered = a; exact = exact status c a; counted = counted status c a; meaning = keeps_meaning status came told c e k r }
+    record { answered = a; exact = exact status c a; counted = counted status c a; meaning = keeps_meaning status came told c b e k r }

@@ -40,11 +40,11 @@ filled old new text h e =
     same ∙ ap (λ o. o ++ text) e
 
 -- the C file of a text
-pub compiled : (text bytes : List ℕ) (tree : File) → front_of text ≡ Ok tree → GivesC (Ok bytes) (program_in tree) → IsC text bytes
-compiled text bytes tree e h = record { tree = tree; source = h.0; parsed = e; built = h.1; fits = h.2; is = h.3 }
+pub compiled : (name text bytes : List ℕ) (tree : File) → front_of text ≡ Ok tree → GivesC name (Ok bytes) (program_in tree) → IsC name text bytes
+compiled name text bytes tree e h = record { tree = tree; source = h.0; parsed = e; built = h.1; fits = h.2; is = h.3 }
 
-pub not_built : (text : List ℕ) (tree : File) (line : ℕ) (rule : Rule) → front_of text ≡ Ok tree → GivesC (Err (syntax.At line rule)) (program_in tree) → source_in text ≡ Err (line, rule)
-not_built text tree line rule e h = ap then_built e ∙ ap judged h.0 ∙ ap (λ r. Err (line, r)) (sym h.1)
+pub not_built : (name text : List ℕ) (tree : File) (line : ℕ) (rule : Rule) → front_of text ≡ Ok tree → GivesC name (Err (syntax.At line rule)) (program_in tree) → source_in text ≡ Err (line, rule)
+not_built name text tree line rule e h = ap then_built e ∙ ap judged h.0 ∙ ap (λ r. Err (line, r)) (sym h.1)
 
 pub not_parsed : (text : List ℕ) (line : ℕ) (rule : Rule) → front_of text ≡ Err (line, rule) → source_in text ≡ Err (line, rule)
 not_parsed text line rule e = ap then_built e
@@ -87,7 +87,7 @@ text_there view v WriteFault old now new file h k t = t ∙ k
 text_there view v Memory old now new file h k t = t ∙ k
 
 -- the C file of a source that was translated and put into the store
-pub text_done : (file text bytes : List ℕ) (old new : Option Files) → IsC text bytes → Saved old (c_name file) bytes new → TextComesTo Done file text old new
+pub text_done : (file text bytes : List ℕ) (old new : Option Files) → IsC file text bytes → Saved old (c_name file) bytes new → TextComesTo Done file text old new
 text_done file text bytes old new h s = (bytes, h, s)
 
 pub text_refused : (file : Bor (List ℕ)) (text : List ℕ) (line : ℕ) (rule : Rule) (old new : Option Files) → source_in text ≡ Err (line, rule) → new ≡ old → TextComesTo (Refused file line rule) file.now text old new

@@ -21,25 +21,25 @@ use Rattle.lf_driver.specs.Refusal as refusal
 use Rattle.lf_driver.specs.Verdict.{Stops, Told, c_name, step}
 
 -- The text of the C file of what is built was answered, or the line of the first form that is not.
-abbrev pub GivesC : Result (List ℕ) SyntaxFault → Building → Type 0
-GivesC (Ok text) there = (source : Option Source) × (there ≡ Ok source) × IsFit source × (text ≡ file_text (c_file source))
-GivesC (Err syntax.Memory) there = Unit {0}
-GivesC (Err (syntax.At line rule)) there = (there ≡ Err line) × (rule ≡ E202)
+abbrev pub GivesC : List ℕ → Result (List ℕ) SyntaxFault → Building → Type 0
+GivesC name (Ok text) there = (source : Option Source) × (there ≡ Ok source) × IsFit source × (text ≡ file_text (c_file name source))
+GivesC name (Err syntax.Memory) there = Unit {0}
+GivesC name (Err (syntax.At line rule)) there = (there ≡ Err line) × (rule ≡ E202)
 
--- The bytes are the C file of a text.
-pub record IsC (text bytes : List ℕ) : Type 0 where
+-- The bytes are the C file of the text of the file of this name.
+pub record IsC (name text bytes : List ℕ) : Type 0 where
   pub tree : File
   pub source : Option Source
   pub parsed : front_of text ≡ Ok tree
   pub built : program_in tree ≡ Ok source
   pub fits : IsFit source
-  pub is : bytes ≡ file_text (c_file source)
+  pub is : bytes ≡ file_text (c_file name source)
 
 -- The C file of a text was answered, or the first fault.
-abbrev pub GivesText : Result (List ℕ) SyntaxFault → List ℕ → Type 0
-GivesText (Ok bytes) text = IsC text bytes
-GivesText (Err syntax.Memory) text = Unit {0}
-GivesText (Err (syntax.At line rule)) text = source_in text ≡ Err (line, rule)
+abbrev pub GivesText : List ℕ → Result (List ℕ) SyntaxFault → List ℕ → Type 0
+GivesText name (Ok bytes) text = IsC name text bytes
+GivesText name (Err syntax.Memory) text = Unit {0}
+GivesText name (Err (syntax.At line rule)) text = source_in text ≡ Err (line, rule)
 
 -- A file is put among the files, where the store tells them.
 pub record Saved (old : Option Files) (name bytes : List ℕ) (new : Option Files) : Type 0 where
@@ -57,7 +57,7 @@ IsPendingC (Err fault) file old new = IsBegun file old new
 
 -- what comes of a file whose text was read
 abbrev pub TextComesTo : Answer → List ℕ → List ℕ → Option Files → Option Files → Type 0
-TextComesTo outcome.Done file text old new = (bytes : List ℕ) × IsC text bytes × Saved old (c_name file) bytes new
+TextComesTo outcome.Done file text old new = (bytes : List ℕ) × IsC file text bytes × Saved old (c_name file) bytes new
 TextComesTo outcome.Usage file text old new = ⊥
 TextComesTo (outcome.Absent name) file text old new = ⊥
 TextComesTo (outcome.Refused name line rule) file text old new = (step nothing file (Some text) ≡ Stops (refusal.Refused name.now line rule)) × (new ≡ old)
@@ -70,7 +70,7 @@ pub record Compiles (file : List ℕ) (files : Files) (new : Option Files) : Typ
   pub text : List ℕ
   pub bytes : List ℕ
   pub there : get files file ≡ Some text
-  pub compiled : IsC text bytes
+  pub compiled : IsC file text bytes
   pub written : new ≡ Some (insert files (c_name file) bytes)
 
 -- what comes of a file of this name

@@ -52,7 +52,7 @@ pub record Named : Type 0 where
   pub file : CFile
 
 abbrev pub c_of : Listed → Named
-c_of listed = record { name = c_name listed.name; file = c_file listed.built }
+c_of listed = record { name = c_name listed.name; file = c_file listed.name listed.built }
 
 abbrev pub has_name : List ℕ → Named → Bool
 has_name name named = bytes_eq name named.name

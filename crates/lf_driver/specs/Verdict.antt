@@ -28,7 +28,7 @@ pub data Step : Type 0 where
 
 abbrev pub unless_second : List ℕ → Known → Option Source → Option ℕ → Step
 unless_second file known source (Some line) = Stops (refusal.Refused file line E306)
-unless_second file known source None = Writes ((c_name file, file_text (c_file source)) ∷ []) known
+unless_second file known source None = Writes ((c_name file, file_text (c_file file source)) ∷ []) known
 
 abbrev pub step_of_built : Known → List ℕ → File → Judged → Step
 step_of_built known file tree (Ok source) = unless_second file (with_units known tree.units) source (second_line known tree.units)

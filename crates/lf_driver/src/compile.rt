@@ -41,10 +41,10 @@ fn c_bytes(alloc: Global, file: &CFile) -> Result<SureSink, Memory>
     }
 }
 
-fn c_text(alloc: Global, file: &File) -> Result<SureSink, SyntaxFault>
-    ensures { GivesC result (program_in file.now) }
+fn c_text(alloc: Global, name: &str, file: &File) -> Result<SureSink, SyntaxFault>
+    ensures { GivesC name.now result (program_in file.now) }
 {
-    match lower(alloc, file) {
+    match lower(alloc, name.as_bytes(), file) {
         Ok(file) => match c_bytes(alloc, &file) {
             Ok(text) => Ok(text),
             Err(Memory) => Err(SyntaxFault::Memory),
@@ -55,11 +55,11 @@ fn c_text(alloc: Global, file: &File) -> Result<SureSink, SyntaxFault>
 
 // The text of the C file of a source.
 #[tactic(auto, using(crate::proofs::Saving::compiled, crate::proofs::Saving::not_built, crate::proofs::Saving::not_parsed))]
-fn translated(alloc: Global, source: &[u8]) -> Result<SureSink, SyntaxFault>
-    ensures { GivesText result source.now }
+fn translated(alloc: Global, name: &str, source: &[u8]) -> Result<SureSink, SyntaxFault>
+    ensures { GivesText name.now result source.now }
 {
     match read_tree(alloc, source) {
-        Ok(file) => c_text(alloc, &file),
+        Ok(file) => c_text(alloc, name, &file),
         Err(fault) => Err(fault),
     }
 }
@@ -110,7 +110,7 @@ fn finish_file<'a, S: Store>(
     ensures pending { Begins result file.now (S.pending store.old) (S.pending store.new) (S.contents store.old) (S.contents store.new) }
     ensures counts { Counts result (S.read_faults store.old) (S.read_faults store.new) (S.Sink.faults store.old) (S.Sink.faults store.new) }
 {
-    match translated(alloc, bytes) {
+    match translated(alloc, file, bytes) {
         Ok(text) => match write_file(alloc, file, text.bytes(), store) {
             Ok(()) => Answer::Done,
             Err(PutFault::Failed) => Answer::WriteFault,

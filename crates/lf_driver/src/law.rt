@@ -9,13 +9,13 @@ ghost use Rattle.lf_driver.specs.Answers.{Answered};
 ghost use Rattle.lf_driver.specs.Call.{Call};
 ghost use Rattle.lf_driver.specs.OnePrint.Fortran.{FortranMeaning, IsSmall};
 ghost use Rattle.lf_driver.specs.OnePrint.Lowered.{count, lowered_file};
-ghost use Rattle.lf_driver.specs.OnePrint.Source.{Source};
+ghost use Rattle.lf_driver.specs.OnePrint.Source.{Source, IsLocation};
 ghost use Rattle.lf_driver.specs.Words.{words_of};
 
 /// The C file of a program and the program agree: within stated bounds each gives the other's output, status
-/// and trap, and neither is ever stuck or undefined.
+/// and trap, with the text that tells where it shows, and neither is ever stuck or undefined.
 pub fn c_file_agrees()
-    ensures { (location : Location) (source : Source) → IsSmall source.value → count source.value < 2 ^ 70 → length source.name < 2 ^ 64 → Agree (FortranMeaning location source) (CMeaning (lowered_file source ∷ [])) }
+    ensures { (location : Location) → IsLocation location → (source : Source) → IsSmall source.value → count source.value < 2 ^ 70 → length source.name < 2 ^ 64 → Agree (FortranMeaning location source) (CMeaning (lowered_file location source ∷ [])) }
 {}
 
 /// Where the words name one file, each status but 0 leaves the files of the store as they were.

@@ -1,135 +1,212 @@
 -- What the statements of a lowered value do: they end with its value in the last temporary, or in the trap.
-use Rattle.std.proofs.Common.{◌≡◌, ℕ, suc, ◌+◌, ◌≤◌, Bool, true, false, List, [], ◌∷◌, ◌++◌, length, map, Option, Some, None, codes, cond, refl, sym, ap, subst, ◌∙◌, arith, length-append, append_assoc}
+use Rattle.std.proofs.Common.{◌≡◌, ℕ, zero, suc, ◌+◌, ◌^◌, ◌<◌, ◌≤◌, Bool, true, false, List, [], ◌∷◌, ◌++◌, length, map, Option, Some, None, codes, cond, refl, sym, ap, subst, ◌∙◌, arith, length-append, append_assoc}
+use Rattle.std.specs.Str.{bytes_eq}
 use Rattle.std.proofs.Math.IntN.{ℤ, pos}
 use Rattle.std.proofs.lemmas.Int.{ints}
-use Rattle.lf_base.specs.Outcome.{Written, Outcome, Undefined}
-use Rattle.lf_base.specs.Acts.{Stretch, Going, Stopped, then_do, next_or, bind, change, give, given}
-use Rattle.lf_base.proofs.Runs.{order_next, order_stopped, bind_stopped}
+use Rattle.lf_base.specs.Outcome.{Location, Written, Outcome, Ended}
+use Rattle.lf_base.specs.Acts.{Going, Stopped}
+use Rattle.lf_base.specs.Traps.{trap_status, trap_text}
+use Rattle.lf_base.specs.declared.trap.Trap.TheVariants.{IntegerOverflow}
+use Rattle.lf_base.proofs.Runs.{order_next, order_stopped}
 use Rattle.c_nodes.specs.declared.tree.CFile.{CFile}
 use Rattle.c_nodes.specs.declared.tree.CStmt.{CStmt}
-use Rattle.lf_base.specs.declared.name.Name.{Name}
-use Rattle.c_nodes.specs.declared.tree.CType.{CType}
-use Rattle.c_nodes.specs.declared.tree.CExpr.{CExpr}
 use Rattle.c_nodes.specs.declared.tree.CType.TheVariants.{Int64}
-use Rattle.c_nodes.specs.declared.tree.CExpr.TheVariants.{Constant}
-use Rattle.c_nodes.specs.declared.tree.CStmt.TheVariants.{DeclareCall}
-use Rattle.c_semantics.specs.CValues.{Width, W32, W64, Local, CValue, Number, fits}
-use Rattle.c_semantics.specs.CState.{Around, Frame, State, read_from}
-use Rattle.c_semantics.specs.CMeaning.{reading, variable_value, Element, stored_in, begin_object, all_given, answer, answered, initialize, Flow, Doing, Calls, calls_of, statement, statements}
-use Rattle.c_prelude.specs.PreludeLaws.{HasPrelude, overflows, value_or_overflow, Combines}
+use Rattle.c_nodes.specs.declared.tree.CExpr.{CExpr}
+use Rattle.c_nodes.specs.declared.tree.CExpr.TheVariants.{Variable, Constant, Literal as Text'}
+use Rattle.c_nodes.specs.declared.tree.CStmt.TheVariants.{Assign}
+use Rattle.c_semantics.specs.CValues.{Width, W32, W64, Base, Local, Text, Outside, CValue, Number, Pointer, fits, checked}
+use Rattle.c_semantics.specs.CValues as values
+use Rattle.c_semantics.specs.CState.{Cells, Leads, Around, State, read_from}
+use Rattle.c_semantics.specs.CMeaning.{reading, variable_value, value_at, by_content, named, Element, stored_in, newest, begin_object, all_given, Doing, Calls, calls_of, statement, statements}
+use Rattle.c_semantics.specs.CMeaning as meaning
+use Rattle.c_prelude.specs.PreludeLaws.{HasPrelude, Locates, aged, trap_turns, Combines}
 use Rattle.c_semantics.proofs.CExprs.{exprs}
-use Rattle.c_semantics.proofs.CRuns.{run_declare_value, run_declare_call, stop_answer}
-use Rattle.c_semantics.proofs.CStmts.{does-DeclareCall}
-use Rattle.c_prelude.proofs.PreludeArithmetic.{add_law, fit_law}
-use Rattle.c_prelude.proofs.PreludeMultiply.{sub_law, mul_law}
+use Rattle.c_semantics.proofs.CRuns.{run_assign, run_declare_value, run_declare_call}
+use Rattle.c_prelude.proofs.PreludeArithmetic.{add_law, sub_law, fit_law}
+use Rattle.c_prelude.proofs.PreludeMultiply.{mul_law}
 use Rattle.lf_driver.specs.declared.one_print.built.Operator.{Operator}
 use Rattle.lf_driver.specs.declared.one_print.built.Operator.TheVariants.{Add, Subtract, Multiply}
-use Rattle.lf_driver.specs.OnePrint.Source.{Tree, Literal, Binary}
-use Rattle.lf_driver.specs.OnePrint.Lowered.{temporary, temporary_value, helper, constant, computed, fitted, operation, count, lowered}
+use Rattle.lf_driver.specs.OnePrint.Source.{Tree, Literal, Binary, IsLocation}
+use Rattle.lf_driver.specs.OnePrint.Lowered.{temporary, temporary_value, helper, constant, computed, fitted, noted, operation, count, lowered}
 use Rattle.lf_driver.specs.OnePrint.Fortran.{IsSmall, exact, operated, of_kind4, value_of}
+use Rattle.lf_driver.proofs.OnePrint.Temporaries.{Few, Temporary, temp, object, names_of, objects_of, Falls, falls_further, same_id, find_none, Holds, holds_temp, holds_behind}
 use Rattle.lf_driver.proofs.Straight.{append_going, append_stopped, stop_declare_call}
-use Rattle.lf_driver.proofs.OnePrint.Temporaries.{Few, temps, same_id, Holds, holds_temp, holds_behind}
 
-law_of : (operator : Operator) → Combines (helper operator) (exact operator)
+-- the objects that a helper declares
+abbrev declares : Operator → ℕ
+declares Add = 2
+declares Subtract = 2
+declares Multiply = 3
+
+law_of : (operator : Operator) → Combines (helper operator) (declares operator) (exact operator)
 law_of Add = add_law
 law_of Subtract = sub_law
 law_of Multiply = mul_law
 
--- while `main` computes: the temporaries of these values, and the record's variable
-abbrev pub main_state : List ℤ → List Frame → Around → State
-main_state vs callers around = record { here = record { next = suc (length vs); names = temps vs }; callers = callers; around = around }
+-- further numbers of objects are given, whose objects have ended
+abbrev later : ℕ → State → State
+later k s = record { here = s.here; next = s.next + k; memory = s.memory; around = s.around }
 
-module _ (files : List CFile) (h : HasPrelude files 0) (n d : ℕ) (long : 15 ≤ n) (callers : List Frame) (around : Around) where
+pub aged_is : (k : ℕ) (s : State) → aged k s ≡ later k s
+aged_is zero s = ap (λ m. record { here = s.here; next = m; memory = s.memory; around = s.around }) (omega arith)
+aged_is (suc k) s = aged_is k (record { here = s.here; next = suc s.next; memory = s.memory; around = s.around }) ∙ ap (λ m. record { here = s.here; next = m; memory = s.memory; around = s.around }) (omega arith)
+
+-- what the objects of the prelude note, and the input
+abbrev pub around_at : List ℕ → Option (Base × ℕ) → ℤ → Around
+around_at input to line = record { layouts = []; globals = record { file = Some 0; name = codes "lf_name"; slot = Leads to } ∷ record { file = Some 0; name = codes "lf_line"; slot = Cells Int64 false (Some line ∷ []) } ∷ []; input = input }
+
+-- while `main` computes: the temporaries, the record's variable, and what is noted
+abbrev pub main_state : ℤ → List Temporary → ℕ → Around → State
+main_state g vs next around = record { here = record { file = 0; names = names_of vs }; next = next; memory = objects_of g vs; around = around }
+
+abbrev pub overflow : Location → Written → Outcome
+overflow location w = Ended (record { out = w.out; err = w.err ++ trap_text IntegerOverflow location }) (trap_status IntegerOverflow) None
+
+-- a number of 32 bits without a sign, as a constant
+constant_is : (n : ℕ) → n < 2 ^ 32 → (width : Width) × (values.constant n ≡ Some (Number width (pos n)))
+constant_is n small = by (fits W32 (pos n)) refl
+  where
+    wide : fits W64 (pos n) ≡ true
+    wide = grind (arith, ints)
+
+    by : (t : Bool) → fits W32 (pos n) ≡ t → (width : Width) × (values.constant n ≡ Some (Number width (pos n)))
+    by true e = (W32, ap (λ b. cond b (Some (Number W32 (pos n))) (checked W64 (pos n))) e)
+    by false e = (W64, ap (λ b. cond b (Some (Number W32 (pos n))) (checked W64 (pos n))) e ∙ ap (λ b. cond b (Some (Number W64 (pos n))) None) wide)
+
+module _ (files : List CFile) (h : HasPrelude files 0) (n d : ℕ) (location : Location) (is : IsLocation location) (long : trap_turns location ≤ n) (input : List ℕ) where
   abbrev calls : Calls
   calls = calls_of files n (suc (suc (suc d))) 0
 
-  abbrev at : List ℤ → State
-  at vs = main_state vs callers around
+  abbrev at : List Temporary → ℕ → Option (Base × ℕ) → ℤ → State
+  at vs next to line = main_state (pos 0) vs next (around_at input to line)
 
   abbrev run : List CStmt → Doing
   run = statements n calls
 
+  -- with the location noted
+  abbrev source : Option (Base × ℕ)
+  source = Some (Text location.source, 0)
+
+  abbrev there : List Temporary → ℕ → State
+  there vs next = at vs next source (pos location.line)
+
+  located : Locates 0 location (around_at input source (pos location.line))
+  located = let short = is.short in record { name = refl; line = refl; short = omega arith; bytes = is.bytes; small = is.small }
+
+  names_it : (vs : List Temporary) (next : ℕ) (to : Option (Base × ℕ)) (line : ℤ) → (reading (Variable (codes "lf_name"))).place (at vs next to line) ≡ Some (meaning.Variable (Outside (Some 0) (codes "lf_name")) to)
+  names_it vs next to line = simp exprs (ap (λ o. named (codes "lf_name") o (at vs next to line)) (find_none (codes "lf_name") vs refl (λ k. refl)))
+
+  lines_it : (vs : List Temporary) (next : ℕ) (to : Option (Base × ℕ)) (line : ℤ) → (reading (Variable (codes "lf_line"))).place (at vs next to line) ≡ Some (Element (Outside (Some 0) (codes "lf_line")) 0)
+  lines_it vs next to line = simp exprs (ap (λ o. named (codes "lf_line") o (at vs next to line)) (find_none (codes "lf_line") vs refl (λ k. refl)))
+
+  name_noted : (vs : List Temporary) (next : ℕ) (to : Option (Base × ℕ)) (line : ℤ) (w : Written) → statement n calls (Assign (Variable (codes "lf_name")) (Text' location.source)) (at vs next to line) w ≡ Going None (at vs next source line) w
+  name_noted vs next to line w = run_assign n calls (Variable (codes "lf_name")) (Text' location.source) (Pointer (Text location.source) 0) (meaning.Variable (Outside (Some 0) (codes "lf_name")) to) (at vs next to line) (at vs next source line) w (simp exprs refl) (names_it vs next to line) refl
+
+  line_noted : (vs : List Temporary) (next : ℕ) (to : Option (Base × ℕ)) (line : ℤ) (w : Written) → statement n calls (Assign (Variable (codes "lf_line")) (Constant location.line)) (at vs next to line) w ≡ Going None (at vs next to (pos location.line)) w
+  line_noted vs next to line w =
+      let c = constant_is location.line is.small in
+      let wide : fits W64 (pos location.line) ≡ true = let small = is.small in grind (arith, ints) in
+      run_assign n calls (Variable (codes "lf_line")) (Constant location.line) (Number c.0 (pos location.line)) (Element (Outside (Some 0) (codes "lf_line")) 0) (at vs next to line) (at vs next to (pos location.line)) w (simp exprs c.1) (lines_it vs next to line) (simp wide refl)
+
+  -- the lines that note the location
+  notes : (rest : List CStmt) (vs : List Temporary) (next : ℕ) (to : Option (Base × ℕ)) (line : ℤ) (w : Written) → run (noted location ++ rest) (at vs next to line) w ≡ run rest (there vs next) w
+  notes rest vs next to line w =
+      order_next (statement n calls (Assign (Variable (codes "lf_name")) (Text' location.source))) (map (statement n calls) (Assign (Variable (codes "lf_line")) (Constant location.line) ∷ rest)) (at vs next to line) w (at vs next source line) w (name_noted vs next to line w)
+      ∙ order_next (statement n calls (Assign (Variable (codes "lf_line")) (Constant location.line))) (map (statement n calls) rest) (at vs next source line) w (there vs next) w (line_noted vs next source line w)
+
   -- a new temporary that is not set yet
-  abbrev declared : List ℤ → State
-  declared vs = begin_object Int64 (temporary (suc (length vs))) (at vs)
+  abbrev declared : List Temporary → ℕ → Option (Base × ℕ) → ℤ → State
+  declared vs next to line = begin_object Int64 (temporary (suc (length vs))) (at vs next to line)
 
-  abbrev set : ℤ → List ℤ → State
-  set z vs = record { here = record { next = suc (length vs) + 1; names = temps (z ∷ vs) }; callers = callers; around = around }
+  finds : (k : ℕ) (vs : List Temporary) (next : ℕ) (to : Option (Base × ℕ)) (line : ℤ) → newest (later k (declared vs next to line)) ≡ Some (Element (Local next) 0)
+  finds k vs next to line = simp (same_id next) refl
 
-  set_is : (z : ℤ) (vs : List ℤ) → set z vs ≡ at (z ∷ vs)
-  set_is z vs = ap (λ k. record { here = record { next = k; names = temps (z ∷ vs) }; callers = callers; around = around }) (omega arith)
-
-  stores : (width : Width) (z : ℤ) (vs : List ℤ) → fits W64 z ≡ true → stored_in (Element (Local 0 (suc (length vs))) 0) (Number width z) (declared vs) ≡ Some (set z vs)
-  stores width z vs f = simp (same_id (suc (length vs)), f) refl
+  stores : (k : ℕ) (width : Width) (z : ℤ) (vs : List Temporary) (next : ℕ) (to : Option (Base × ℕ)) (line : ℤ) → fits W64 z ≡ true → stored_in (Element (Local next) 0) (Number width z) (later k (declared vs next to line)) ≡ Some (at ((next, z) ∷ vs) (suc next + k) to line)
+  stores k width z vs next to line f = simp (same_id next, f) refl
 
   -- a literal
-  literal_runs : (value behind : ℕ) (vs : List ℤ) (w : Written) → value ≤ 2147483647 → behind ≡ length vs → run (constant (behind + 1) value ∷ []) (at vs) w ≡ Going None (at (pos value ∷ vs)) w
-  literal_runs value behind vs w small e =
+  literal_runs : (value behind : ℕ) (vs : List Temporary) (next : ℕ) (to : Option (Base × ℕ)) (line : ℤ) (w : Written) → value ≤ 2147483647 → behind ≡ length vs → run (constant (behind + 1) value ∷ []) (at vs next to line) w ≡ Going None (at ((next, pos value) ∷ vs) (suc next) to line) w
+  literal_runs value behind vs next to line w small e =
       let f : fits W32 (pos value) ≡ true = grind (arith, ints) in
       let g : fits W64 (pos value) ≡ true = grind (arith, ints) in
       let m : behind + 1 ≡ suc (length vs) = omega arith in
-      ap (λ k. run (constant k value ∷ []) (at vs) w) m
-      ∙ order_next (statement n calls (constant (suc (length vs)) value)) [] (at vs) w (set (pos value) vs) w
-      (run_declare_value n calls Int64 (temporary (suc (length vs))) (Constant value) (Number W32 (pos value)) (Element (Local 0 (suc (length vs))) 0) (at vs) (set (pos value) vs) w (simp (exprs, f) refl) refl (stores W32 (pos value) vs g))
-      ∙ ap (λ s. Going None s w) (set_is (pos value) vs)
+      ap (λ k. run (constant k value ∷ []) (at vs next to line) w) m
+      ∙ order_next (statement n calls (constant (suc (length vs)) value)) [] (at vs next to line) w (at ((next, pos value) ∷ vs) (suc next) to line) w
+      (run_declare_value n calls Int64 (temporary (suc (length vs))) (Constant value) (Number W32 (pos value)) (Element (Local next) 0) (at vs next to line) (at ((next, pos value) ∷ vs) (suc next) to line) w (simp exprs (ap (λ b. cond b (Some (Number W32 (pos value))) (checked W64 (pos value))) f)) (simp (same_id next) refl) (simp (same_id next, g) refl))
 
   -- the value of a temporary that is there
-  value_is : (k : ℕ) (v : ℤ) (s : State) (c : ℕ) → Holds k v s.here.names c → (reading (temporary_value k)).value s ≡ Some (Number W64 v)
-  value_is k v s c h = simp exprs (ap (λ o. variable_value (temporary k) o s) h.name ∙ ap (λ o. read_from 0 o) h.slot)
+  pub value_is : (k : ℕ) (z : ℤ) (s : State) (c next : ℕ) → Holds k z s.here.names s.memory c next → (reading (temporary_value k)).value s ≡ Some (Number W64 z)
+  value_is k z s c next h = simp exprs (ap (λ o. variable_value (temporary k) o s) h.name ∙ ap (λ o. value_at (by_content (Local h.number) o) s) h.slot ∙ ap (λ o. read_from 0 o) h.slot)
+
+  -- what a value of 64 bits is found as, behind a temporary that is not set
+  abbrev Found : ℕ → ℤ → List Temporary → ℕ → Type 0
+  Found k z vs next = Holds k z (names_of vs) (objects_of (pos 0) vs) (length vs) next
+
+  given_of : (k : ℕ) (z : ℤ) (vs : List Temporary) (next : ℕ) (to : Option (Base × ℕ)) (line : ℤ) → Few (suc (suc (suc (length vs)))) → Found k z vs next → (reading (temporary_value k)).value (declared vs next to line) ≡ Some (Number W64 z)
+  given_of k z vs next to line few found =
+      value_is k z (declared vs next to line) (suc (length vs)) (suc next) (holds_behind k (suc (length vs)) z next (None ∷ []) (names_of vs) (objects_of (pos 0) vs) (length vs) next (omega arith) (omega arith) (omega arith) found)
 
   -- a helper over two temporaries
-  module _ (operator : Operator) (a b : ℤ) (vs : List ℤ) (i j : ℕ) (few : Few (suc (suc (suc (length vs))))) (hi : Holds i a (temps vs) (length vs)) (hj : Holds j b (temps vs) (length vs)) (fa : fits W64 a ≡ true) (fb : fits W64 b ≡ true) (w : Written) where
+  module _ (operator : Operator) (a b : ℤ) (vs : List Temporary) (next i j : ℕ) (few : Few (suc (suc (suc (length vs))))) (hi : Found i a vs next) (hj : Found j b vs next) (fa : fits W64 a ≡ true) (fb : fits W64 b ≡ true) (w : Written) where
     abbrev z : ℤ
     z = exact operator a b
+
+    abbrev before : State
+    before = declared vs next source (pos location.line)
 
     abbrev arguments : List CExpr
     arguments = temporary_value i ∷ temporary_value j ∷ []
 
-    given_both : all_given (map (λ e. (reading e).value (declared vs)) arguments) ≡ Some (Number W64 a ∷ Number W64 b ∷ [])
+    given_both : all_given (map (λ e. (reading e).value before) arguments) ≡ Some (Number W64 a ∷ Number W64 b ∷ [])
     given_both =
-        let m : ℕ = suc (length vs) in
-        let ki = holds_behind i m a (None ∷ []) (temps vs) (length vs) (omega arith) (omega arith) hi in
-        let kj = holds_behind j m b (None ∷ []) (temps vs) (length vs) (omega arith) (omega arith) hj in
-        ap (λ o. all_given (o ∷ (reading (temporary_value j)).value (declared vs) ∷ [])) (value_is i a (declared vs) m ki)
-        ∙ ap (λ o. all_given (Some (Number W64 a) ∷ o ∷ [])) (value_is j b (declared vs) m kj)
+        ap (λ o. all_given (o ∷ (reading (temporary_value j)).value before ∷ [])) (given_of i a vs next source (pos location.line) few hi)
+        ∙ ap (λ o. all_given (Some (Number W64 a) ∷ o ∷ [])) (given_of j b vs next source (pos location.line) few hj)
 
-    called : (t : Bool) → fits W64 z ≡ t → calls (helper operator) (Number W64 a ∷ Number W64 b ∷ []) (declared vs) w ≡ value_or_overflow t z (declared vs) w
-    called t e = law_of operator files 0 h n d long W64 W64 a b fa fb (declared vs) w ∙ ap (λ x. value_or_overflow x z (declared vs) w) e
-
-    computes : fits W64 z ≡ true → statement n calls (computed operator i j (suc (length vs))) (at vs) w ≡ Going None (at (z ∷ vs)) w
+    computes : fits W64 z ≡ true → statement n calls (computed operator i j (suc (length vs))) (there vs next) w ≡ Going None (there ((next, z) ∷ vs) (suc next + declares operator)) w
     computes e =
-        run_declare_call n calls Int64 (temporary (suc (length vs))) (helper operator) arguments (Number W64 a ∷ Number W64 b ∷ []) (Number W64 z) (Element (Local 0 (suc (length vs))) 0) (at vs) (declared vs) (set z vs) w w given_both (called true e) refl (stores W64 z vs e)
-        ∙ ap (λ s. Going None s w) (set_is z vs)
+        run_declare_call n calls Int64 (temporary (suc (length vs))) (helper operator) arguments (Number W64 a ∷ Number W64 b ∷ []) (Number W64 z) (Element (Local next) 0) (there vs next) (later (declares operator) before) (there ((next, z) ∷ vs) (suc next + declares operator)) w w given_both
+        (((law_of operator W64 W64 a b fa fb).value e files 0 h before w).enough n (suc (suc (suc d))) (omega arith) (omega arith) ∙ ap (λ s. Going (Some (Number W64 z)) s w) (aged_is (declares operator) before))
+        (finds (declares operator) vs next source (pos location.line)) (stores (declares operator) W64 z vs next source (pos location.line) e)
 
-    stops : fits W64 z ≡ false → statement n calls (computed operator i j (suc (length vs))) (at vs) w ≡ Stopped (overflows w)
-    stops e = stop_declare_call n calls Int64 (temporary (suc (length vs))) (helper operator) arguments (Number W64 a ∷ Number W64 b ∷ []) (overflows w) (at vs) w given_both (called false e)
+    stops : fits W64 z ≡ false → statement n calls (computed operator i j (suc (length vs))) (there vs next) w ≡ Stopped (overflow location w)
+    stops e = stop_declare_call n calls Int64 (temporary (suc (length vs))) (helper operator) arguments (Number W64 a ∷ Number W64 b ∷ []) (overflow location w) (there vs next) w given_both (((law_of operator W64 W64 a b fa fb).trap e location files 0 h before w located).enough n (suc (suc (suc d))) long (omega arith))
 
   -- and the test for kind 4
-  module _ (z : ℤ) (vs : List ℤ) (few : Few (suc (suc (suc (length vs))))) (f : fits W64 z ≡ true) (w : Written) where
-    abbrev us : List ℤ
-    us = z ∷ vs
+  module _ (z : ℤ) (number : ℕ) (vs : List Temporary) (next : ℕ) (few : Few (suc (suc (suc (suc (length vs)))))) (falls : Falls next ((number, z) ∷ vs)) (f : fits W64 z ≡ true) (w : Written) where
+    abbrev us : List Temporary
+    us = (number, z) ∷ vs
 
-    given_one : all_given (map (λ e. (reading e).value (declared us)) (temporary_value (suc (length vs)) ∷ [])) ≡ Some (Number W64 z ∷ [])
-    given_one =
-        let m : ℕ = suc (length us) in
-        let k = holds_behind (suc (length vs)) m z (None ∷ []) (temps us) (length us) (omega arith) (omega arith) (holds_temp [] z vs (suc (length vs)) (omega arith) refl) in
-        ap (λ o. all_given (o ∷ [])) (value_is (suc (length vs)) z (declared us) m k)
+    abbrev ready : State
+    ready = declared us next source (pos location.line)
 
-    fit_called : (t : Bool) → fits W32 z ≡ t → calls (codes "lf_fit") (Number W64 z ∷ []) (declared us) w ≡ value_or_overflow t z (declared us) w
-    fit_called t e = fit_law files 0 h n d long W64 z f (declared us) w ∙ ap (λ x. value_or_overflow x z (declared us) w) e
+    given_one : all_given (map (λ e. (reading e).value ready) (temporary_value (suc (length vs)) ∷ [])) ≡ Some (Number W64 z ∷ [])
+    given_one = ap (λ o. all_given (o ∷ [])) (given_of (suc (length vs)) z us next source (pos location.line) few (holds_temp (pos 0) [] (number, z) vs (suc (length vs)) next (omega arith) refl falls))
 
-    fits_kind4 : fits W32 z ≡ true → statement n calls (fitted (suc (length vs)) (suc (suc (length vs)))) (at us) w ≡ Going None (at (z ∷ us)) w
+    fits_kind4 : fits W32 z ≡ true → statement n calls (fitted (suc (length vs)) (suc (suc (length vs)))) (there us next) w ≡ Going None (there ((next, z) ∷ us) (suc next + 1)) w
     fits_kind4 e =
-        run_declare_call n calls Int64 (temporary (suc (suc (length vs)))) (codes "lf_fit") (temporary_value (suc (length vs)) ∷ []) (Number W64 z ∷ []) (Number W64 z) (Element (Local 0 (suc (suc (length vs)))) 0) (at us) (declared us) (set z us) w w given_one (fit_called true e) refl (stores W64 z us f)
-        ∙ ap (λ s. Going None s w) (set_is z us)
+        run_declare_call n calls Int64 (temporary (suc (suc (length vs)))) (codes "lf_fit") (temporary_value (suc (length vs)) ∷ []) (Number W64 z ∷ []) (Number W64 z) (Element (Local next) 0) (there us next) (later 1 ready) (there ((next, z) ∷ us) (suc next + 1)) w w given_one
+        (((fit_law W64 z f).value e files 0 h ready w).enough n (suc (suc (suc d))) (omega arith) (omega arith) ∙ ap (λ s. Going (Some (Number W64 z)) s w) (aged_is 1 ready))
+        (finds 1 us next source (pos location.line)) (stores 1 W64 z us next source (pos location.line) f)
 
-    passes_kind4 : fits W32 z ≡ false → statement n calls (fitted (suc (length vs)) (suc (suc (length vs)))) (at us) w ≡ Stopped (overflows w)
-    passes_kind4 e = stop_declare_call n calls Int64 (temporary (suc (suc (length vs)))) (codes "lf_fit") (temporary_value (suc (length vs)) ∷ []) (Number W64 z ∷ []) (overflows w) (at us) w given_one (fit_called false e)
+    passes_kind4 : fits W32 z ≡ false → statement n calls (fitted (suc (length vs)) (suc (suc (length vs)))) (there us next) w ≡ Stopped (overflow location w)
+    passes_kind4 e = stop_declare_call n calls Int64 (temporary (suc (suc (length vs)))) (codes "lf_fit") (temporary_value (suc (length vs)) ∷ []) (Number W64 z ∷ []) (overflow location w) (there us next) w given_one (((fit_law W64 z f).trap e location files 0 h ready w located).enough n (suc (suc (suc d))) long (omega arith))
 
-  -- What the statements of a value do: they add its temporaries, the last one with the value, or trap.
-  abbrev pub Ends : Option ℤ → ℕ → List CStmt → List ℤ → Written → Type 0
-  Ends (Some v) many body vs w = (more : List ℤ) × (suc (length more) ≡ many) × (fits W32 v ≡ true) × (run body (at vs) w ≡ Going None (at ((v ∷ more) ++ vs)) w)
-  Ends None many body vs w = run body (at vs) w ≡ Stopped (overflows w)
+  -- What statements that give a value do: they add so many temporaries, of which the last one has it.
+  pub record Gives (v : ℤ) (many : ℕ) (body : List CStmt) (vs : List Temporary) (next : ℕ) (to : Option (Base × ℕ)) (line : ℤ) (w : Written) : Type 0 where
+    pub more : List Temporary
+    pub number : ℕ
+    pub next' : ℕ
+    pub to' : Option (Base × ℕ)
+    pub line' : ℤ
+    pub many_are : suc (length more) ≡ many
+    pub fits32 : fits W32 v ≡ true
+    pub falls : Falls next' ((number, v) ∷ (more ++ vs))
+    pub runs : run body (at vs next to line) w ≡ Going None (at ((number, v) ∷ (more ++ vs)) next' to' line') w
+
+  -- they give the value, or trap
+  abbrev pub Ends : Option ℤ → ℕ → List CStmt → List Temporary → ℕ → Option (Base × ℕ) → ℤ → Written → Type 0
+  Ends (Some v) many body vs next to line w = Gives v many body vs next to line w
+  Ends None many body vs next to line w = run body (at vs next to line) w ≡ Stopped (overflow location w)
 
   kind4_fits : (z : ℤ) → fits W32 z ≡ true → fits W64 z ≡ true
   kind4_fits z f = grind (arith, ints)
@@ -138,85 +215,136 @@ module _ (files : List CFile) (h : HasPrelude files 0) (n d : ℕ) (long : 15 �
   passes z f = grind (arith, ints)
 
   -- one operation
-  operation_ends : (operator : Operator) (a b : ℤ) (vs : List ℤ) (i j k : ℕ) → Few (suc (suc (suc (length vs)))) → Holds i a (temps vs) (length vs) → Holds j b (temps vs) (length vs) → fits W32 a ≡ true → fits W32 b ≡ true → k ≡ length vs → (w : Written) → Ends (of_kind4 (exact operator a b)) 2 (operation operator i j k) vs w
-  operation_ends operator a b vs i j k few hi hj fa fb e w = by_fits (fits W64 z) (fits W32 z) refl refl
-    where
-      z : ℤ
-      z = exact operator a b
+  module _ (operator : Operator) (a b : ℤ) (vs : List Temporary) (next i j k : ℕ) (to : Option (Base × ℕ)) (line : ℤ) (few : Few (suc (suc (suc (suc (length vs)))))) (falls : Falls next vs) (hi : Found i a vs next) (hj : Found j b vs next) (fa : fits W32 a ≡ true) (fb : fits W32 b ≡ true) (e : k ≡ length vs) (w : Written) where
+    abbrev value : ℤ
+    value = exact operator a b
 
-      names : (f : ℕ → ℕ → Stretch State (Option Flow)) → f (k + 1) (k + 2) ≡ f (suc (length vs)) (suc (suc (length vs)))
-      names f = let p : k + 1 ≡ suc (length vs) = omega arith in let q : k + 2 ≡ suc (suc (length vs)) = omega arith in ap (λ x. f x (k + 2)) p ∙ ap (λ x. f (suc (length vs)) x) q
+    abbrev compute : CStmt
+    compute = computed operator i j (suc (length vs))
 
-      by_fits : (p q : Bool) → fits W64 z ≡ p → fits W32 z ≡ q → Ends (cond q (Some z) None) 2 (operation operator i j k) vs w
-      by_fits true true ep eq = (
-        z ∷ [],
-        refl,
-        eq,
-        names (λ l m. run (computed operator i j l ∷ fitted l m ∷ []) (at vs) w)
-            ∙ order_next (statement n calls (computed operator i j (suc (length vs)))) (map (statement n calls) (fitted (suc (length vs)) (suc (suc (length vs))) ∷ [])) (at vs) w (at (z ∷ vs)) w (computes operator a b vs i j few hi hj (kind4_fits a fa) (kind4_fits b fb) w ep)
-            ∙ order_next (statement n calls (fitted (suc (length vs)) (suc (suc (length vs))))) [] (at (z ∷ vs)) w (at (z ∷ z ∷ vs)) w (fits_kind4 z vs few ep w eq),
-      )
-      by_fits true false ep eq =
-          names (λ l m. run (computed operator i j l ∷ fitted l m ∷ []) (at vs) w)
-          ∙ order_next (statement n calls (computed operator i j (suc (length vs)))) (map (statement n calls) (fitted (suc (length vs)) (suc (suc (length vs))) ∷ [])) (at vs) w (at (z ∷ vs)) w (computes operator a b vs i j few hi hj (kind4_fits a fa) (kind4_fits b fb) w ep)
-          ∙ order_stopped (statement n calls (fitted (suc (length vs)) (suc (suc (length vs))))) [] (at (z ∷ vs)) w (overflows w) (passes_kind4 z vs few ep w eq)
-      by_fits false true ep eq = absurd (let f = passes z ep in cc)
-      by_fits false false ep eq =
-          names (λ l m. run (computed operator i j l ∷ fitted l m ∷ []) (at vs) w)
-          ∙ order_stopped (statement n calls (computed operator i j (suc (length vs)))) (map (statement n calls) (fitted (suc (length vs)) (suc (suc (length vs))) ∷ [])) (at vs) w (overflows w) (stops operator a b vs i j few hi hj (kind4_fits a fa) (kind4_fits b fb) w ep)
+    abbrev fit : CStmt
+    fit = fitted (suc (length vs)) (suc (suc (length vs)))
 
-  literal_ends : (value behind : ℕ) (vs : List ℤ) → value ≤ 2147483647 → behind ≡ length vs → (w : Written) (o : Option ℤ) → o ≡ Some (pos value) → Ends o 1 (constant (behind + 1) value ∷ []) vs w
-  literal_ends value behind vs small e w o is =
-      let f : fits W32 (pos value) ≡ true = grind (arith, ints) in
-      subst (λ x. Ends x 1 (constant (behind + 1) value ∷ []) vs w) (sym is) ([], refl, f, literal_runs value behind vs w small e)
+    abbrev next1 : ℕ
+    next1 = suc next + declares operator
+
+    body_is : operation location operator i j k ≡ noted location ++ compute ∷ noted location ++ fit ∷ []
+    body_is =
+        let p : k + 1 ≡ suc (length vs) = omega arith in
+        let q : k + 2 ≡ suc (suc (length vs)) = omega arith in
+        ap (λ x. noted location ++ computed operator i j x ∷ noted location ++ fitted x (k + 2) ∷ []) p
+        ∙ ap (λ x. noted location ++ compute ∷ noted location ++ fitted (suc (length vs)) x ∷ []) q
+
+    begins : run (operation location operator i j k) (at vs next to line) w ≡ run (compute ∷ noted location ++ fit ∷ []) (there vs next) w
+    begins = ap (λ l. run l (at vs next to line) w) body_is ∙ notes (compute ∷ noted location ++ fit ∷ []) vs next to line w
+
+    goes_on : fits W64 value ≡ true → run (operation location operator i j k) (at vs next to line) w ≡ run (fit ∷ []) (there ((next, value) ∷ vs) next1) w
+    goes_on ep =
+        begins
+        ∙ order_next (statement n calls compute) (map (statement n calls) (noted location ++ fit ∷ [])) (there vs next) w (there ((next, value) ∷ vs) next1) w (computes operator a b vs next i j (omega (arith, few)) hi hj (kind4_fits a fa) (kind4_fits b fb) w ep)
+        ∙ notes (fit ∷ []) ((next, value) ∷ vs) next1 source (pos location.line) w
+
+    falls1 : Falls next1 ((next, value) ∷ vs)
+    falls1 = (omega arith, falls)
+
+    by_fits : (p q : Bool) → fits W64 value ≡ p → fits W32 value ≡ q → Ends (cond q (Some value) None) 2 (operation location operator i j k) vs next to line w
+    by_fits true true ep eq = record {
+      more = (next, value) ∷ [];
+      number = next1;
+      next' = suc next1 + 1;
+      to' = source;
+      line' = pos location.line;
+      many_are = refl;
+      fits32 = eq;
+      falls = (omega arith, falls1);
+      runs = goes_on ep ∙ order_next (statement n calls fit) [] (there ((next, value) ∷ vs) next1) w (there ((next1, value) ∷ (next, value) ∷ vs) (suc next1 + 1)) w (fits_kind4 value next vs next1 few falls1 ep w eq);
+    }
+    by_fits true false ep eq = goes_on ep ∙ order_stopped (statement n calls fit) [] (there ((next, value) ∷ vs) next1) w (overflow location w) (passes_kind4 value next vs next1 few falls1 ep w eq)
+    by_fits false true ep eq = absurd (let x = passes value ep in cc)
+    by_fits false false ep eq = begins ∙ order_stopped (statement n calls compute) (map (statement n calls) (noted location ++ fit ∷ [])) (there vs next) w (overflow location w) (stops operator a b vs next i j (omega (arith, few)) hi hj (kind4_fits a fa) (kind4_fits b fb) w ep)
+
+    operation_ends : Ends (of_kind4 value) 2 (operation location operator i j k) vs next to line w
+    operation_ends = by_fits (fits W64 value) (fits W32 value) refl refl
 
   -- an operation behind its operands
-  module _ (operator : Operator) (l r : List CStmt) (cl cr behind : ℕ) (vs : List ℤ) (w : Written) (e : behind ≡ length vs) (few : Few (length vs + cl + cr + 5)) where
-    abbrev rest : List CStmt
-    rest = r ++ operation operator (behind + cl) (behind + cl + cr) (behind + cl + cr)
+  module _ (operator : Operator) (l r : List CStmt) (cl cr behind : ℕ) (vs : List Temporary) (next : ℕ) (to : Option (Base × ℕ)) (line : ℤ) (w : Written) (e : behind ≡ length vs) (few : Few (length vs + cl + cr + 5)) where
+    abbrev last : List CStmt
+    last = operation location operator (behind + cl) (behind + cl + cr) (behind + cl + cr)
 
-    joined_ends : (a b : ℤ) (xs ys : List ℤ) → suc (length xs) ≡ cl → suc (length ys) ≡ cr → fits W32 a ≡ true → fits W32 b ≡ true → run l (at vs) w ≡ Going None (at ((a ∷ xs) ++ vs)) w → run r (at ((a ∷ xs) ++ vs)) w ≡ Going None (at ((b ∷ ys) ++ ((a ∷ xs) ++ vs))) w → (o : Option ℤ) → Ends o 2 (operation operator (behind + cl) (behind + cl + cr) (behind + cl + cr)) ((b ∷ ys) ++ ((a ∷ xs) ++ vs)) w → Ends o (cl + cr + 2) (l ++ rest) vs w
-    joined_ends a b xs ys lx ly fa fb hl hr (Some v) h =
-        let us = (b ∷ ys) ++ (a ∷ xs) in (
-          h.0 ++ us,
-          omega (arith, h.1, length-append h.0 us, length-append (b ∷ ys) (a ∷ xs)),
-          h.2,
-          append_going n calls l rest (at vs) (at ((a ∷ xs) ++ vs)) w w hl
-              ∙ append_going n calls r (operation operator (behind + cl) (behind + cl + cr) (behind + cl + cr)) (at ((a ∷ xs) ++ vs)) (at ((b ∷ ys) ++ ((a ∷ xs) ++ vs))) w w hr
-              ∙ h.3
-              ∙ ap (λ t. Going None (at t) w) (ap (λ t. (v ∷ h.0) ++ t) (sym (append_assoc (b ∷ ys) (a ∷ xs) vs)) ∙ sym (append_assoc (v ∷ h.0) us vs)),
-        )
-    joined_ends a b xs ys lx ly fa fb hl hr None h =
-        append_going n calls l rest (at vs) (at ((a ∷ xs) ++ vs)) w w hl
-        ∙ append_going n calls r (operation operator (behind + cl) (behind + cl + cr) (behind + cl + cr)) (at ((a ∷ xs) ++ vs)) (at ((b ∷ ys) ++ ((a ∷ xs) ++ vs))) w w hr
-        ∙ h
+    module _ (a b : ℤ) (g : Gives a cl l vs next to line w) (k : Gives b cr r ((g.number, a) ∷ (g.more ++ vs)) g.next' g.to' g.line' w) where
+      abbrev xs : List Temporary
+      xs = (g.number, a) ∷ g.more
 
-    right_ends : (a : ℤ) (xs : List ℤ) → suc (length xs) ≡ cl → fits W32 a ≡ true → run l (at vs) w ≡ Going None (at ((a ∷ xs) ++ vs)) w → (y : Option ℤ) → Ends y cr r ((a ∷ xs) ++ vs) w → Ends (operated operator (Some a) y) (cl + cr + 2) (l ++ rest) vs w
-    right_ends a xs lx fa hl None h =
-        append_going n calls l rest (at vs) (at ((a ∷ xs) ++ vs)) w w hl
-        ∙ append_stopped n calls r (operation operator (behind + cl) (behind + cl + cr) (behind + cl + cr)) (at ((a ∷ xs) ++ vs)) w (overflows w) h
-    right_ends a xs lx fa hl (Some b) h =
-        let ys = h.0 in
-        let all = (b ∷ ys) ++ ((a ∷ xs) ++ vs) in
-        let many : length all ≡ length vs + cl + cr = omega (arith, h.1, length-append (b ∷ ys) ((a ∷ xs) ++ vs), length-append (a ∷ xs) vs) in
-        let below : length ((a ∷ xs) ++ vs) ≡ length vs + cl = omega (arith, length-append (a ∷ xs) vs) in
-        joined_ends a b xs ys lx h.1 fa h.2 hl h.3 (of_kind4 (exact operator a b))
-        (operation_ends operator a b all (behind + cl) (behind + cl + cr) (behind + cl + cr) (omega (arith, many))
-        (holds_temp (b ∷ ys) a (xs ++ vs) (behind + cl) (omega (arith, many)) (omega (arith, below)))
-        (holds_temp [] b (ys ++ ((a ∷ xs) ++ vs)) (behind + cl + cr) (omega (arith, many)) (omega (arith, many)))
-        fa h.2 (omega (arith, many)) w)
+      abbrev ys : List Temporary
+      ys = (k.number, b) ∷ k.more
 
-    both_end : (x y : Option ℤ) → Ends x cl l vs w → ((a : ℤ) (xs : List ℤ) → suc (length xs) ≡ cl → Ends y cr r ((a ∷ xs) ++ vs) w) → Ends (operated operator x y) (cl + cr + 2) (l ++ rest) vs w
-    both_end None None h k = append_stopped n calls l rest (at vs) w (overflows w) h
-    both_end None (Some b) h k = append_stopped n calls l rest (at vs) w (overflows w) h
-    both_end (Some a) y h k = right_ends a h.0 h.1 h.2 h.3 y (k a h.0 h.1)
+      abbrev all : List Temporary
+      all = ys ++ (xs ++ vs)
+
+      operands_run : run (l ++ (r ++ last)) (at vs next to line) w ≡ run last (at all k.next' k.to' k.line') w
+      operands_run =
+          append_going n calls l (r ++ last) (at vs next to line) (at (xs ++ vs) g.next' g.to' g.line') w w g.runs
+          ∙ append_going n calls r last (at (xs ++ vs) g.next' g.to' g.line') (at all k.next' k.to' k.line') w w k.runs
+
+      below : length (xs ++ vs) ≡ length vs + cl
+      below = let m = g.many_are in omega (arith, m, length-append xs vs)
+
+      many : length all ≡ length vs + cl + cr
+      many = let m = k.many_are in omega (arith, m, below, length-append ys (xs ++ vs))
+
+      joined_ends : (o : Option ℤ) → Ends o 2 last all k.next' k.to' k.line' w → Ends o (cl + cr + 2) (l ++ (r ++ last)) vs next to line w
+      joined_ends (Some v) x =
+          let us = ys ++ xs in
+          let same : (x.number, v) ∷ (x.more ++ all) ≡ (x.number, v) ∷ ((x.more ++ us) ++ vs) = ap (λ t. (x.number, v) ∷ (x.more ++ t)) (sym (append_assoc ys xs vs)) ∙ ap (λ t. (x.number, v) ∷ t) (sym (append_assoc x.more us vs)) in
+          let mx = x.many_are in
+          let mk = k.many_are in
+          let mg = g.many_are in
+          record {
+            more = x.more ++ us;
+            number = x.number;
+            next' = x.next';
+            to' = x.to';
+            line' = x.line';
+            many_are = omega (arith, mx, mk, mg, length-append x.more us, length-append ys xs);
+            fits32 = x.fits32;
+            falls = subst (Falls x.next') same x.falls;
+            runs = operands_run ∙ x.runs ∙ ap (λ t. Going None (at t x.next' x.to' x.line') w) same;
+          }
+      joined_ends None x = operands_run ∙ x
+
+      both_give : Ends (of_kind4 (exact operator a b)) (cl + cr + 2) (l ++ (r ++ last)) vs next to line w
+      both_give =
+          joined_ends (of_kind4 (exact operator a b))
+          (operation_ends operator a b all k.next' (behind + cl) (behind + cl + cr) (behind + cl + cr) k.to' k.line' (omega (arith, many, few)) k.falls
+          (holds_temp (pos 0) ys (g.number, a) (g.more ++ vs) (behind + cl) k.next' (omega (arith, many, few)) (omega (arith, below, e)) k.falls)
+          (holds_temp (pos 0) [] (k.number, b) (k.more ++ (xs ++ vs)) (behind + cl + cr) k.next' (omega (arith, many, few)) (omega (arith, many, e)) k.falls)
+          g.fits32 k.fits32 (omega (arith, many, e)) w)
+
+    right_ends : (a : ℤ) (g : Gives a cl l vs next to line w) (y : Option ℤ) → Ends y cr r ((g.number, a) ∷ (g.more ++ vs)) g.next' g.to' g.line' w → Ends (operated operator (Some a) y) (cl + cr + 2) (l ++ (r ++ last)) vs next to line w
+    right_ends a g None k =
+        append_going n calls l (r ++ last) (at vs next to line) (at ((g.number, a) ∷ (g.more ++ vs)) g.next' g.to' g.line') w w g.runs
+        ∙ append_stopped n calls r last (at ((g.number, a) ∷ (g.more ++ vs)) g.next' g.to' g.line') w (overflow location w) k
+    right_ends a g (Some b) k = both_give a b g k
+
+    both_end : (x y : Option ℤ) → Ends x cl l vs next to line w → ((us : List Temporary) (later : ℕ) (to' : Option (Base × ℕ)) (line' : ℤ) → length us ≡ length vs + cl → Falls later us → Ends y cr r us later to' line' w) → Ends (operated operator x y) (cl + cr + 2) (l ++ (r ++ last)) vs next to line w
+    both_end None None g k = append_stopped n calls l (r ++ last) (at vs next to line) w (overflow location w) g
+    both_end None (Some b) g k = append_stopped n calls l (r ++ last) (at vs next to line) w (overflow location w) g
+    both_end (Some a) y g k =
+        let m = g.many_are in
+        right_ends a g y (k ((g.number, a) ∷ (g.more ++ vs)) g.next' g.to' g.line' (omega (arith, m, length-append g.more vs)) g.falls)
+
+  literal_ends : (value behind : ℕ) (vs : List Temporary) (next : ℕ) (to : Option (Base × ℕ)) (line : ℤ) → value ≤ 2147483647 → behind ≡ length vs → Falls next vs → (w : Written) (o : Option ℤ) → o ≡ Some (pos value) → Ends o 1 (constant (behind + 1) value ∷ []) vs next to line w
+  literal_ends value behind vs next to line small e falls w o p =
+      let f : fits W32 (pos value) ≡ true = grind (arith, ints) in
+      subst (λ x. Ends x 1 (constant (behind + 1) value ∷ []) vs next to line w) (sym p)
+      (record { more = []; number = next; next' = suc next; to' = to; line' = line; many_are = refl; fits32 = f; falls = (omega arith, falls); runs = literal_runs value behind vs next to line w small e })
 
   -- the statements of any value
-  pub lowered_ends : (t : Tree) → IsSmall t → (behind : ℕ) (vs : List ℤ) → behind ≡ length vs → Few (length vs + count t + 5) → (w : Written) → Ends (value_of t) (count t) (lowered t behind) vs w
-  lowered_ends (Literal value) small behind vs e few w =
+  pub lowered_ends : (t : Tree) → IsSmall t → (behind : ℕ) (vs : List Temporary) (next : ℕ) (to : Option (Base × ℕ)) (line : ℤ) → behind ≡ length vs → Few (length vs + count t + 5) → Falls next vs → (w : Written) → Ends (value_of t) (count t) (lowered location t behind) vs next to line w
+  lowered_ends (Literal value) small behind vs next to line e few falls w =
       let f : fits W32 (pos value) ≡ true = grind (arith, ints) in
-      literal_ends value behind vs small e w (of_kind4 (pos value)) (ap (λ b. cond b (Some (pos value)) None) f)
-  lowered_ends (Binary operator left right) small behind vs e few w =
-      both_end operator (lowered left behind) (lowered right (behind + count left)) (count left) (count right) behind vs w e (omega arith) (value_of left) (value_of right)
-      (lowered_ends left small.0 behind vs e (omega arith) w)
-      (λ a xs lx. lowered_ends right small.1 (behind + count left) ((a ∷ xs) ++ vs) (omega (arith, length-append (a ∷ xs) vs)) (omega (arith, length-append (a ∷ xs) vs)) w)
+      literal_ends value behind vs next to line small e falls w (of_kind4 (pos value)) (ap (λ b. cond b (Some (pos value)) None) f)
+  lowered_ends (Binary operator left right) small behind vs next to line e few falls w =
+      both_end operator (lowered location left behind) (lowered location right (behind + count left)) (count left) (count right) behind vs next to line w e (omega (arith, few)) (value_of left) (value_of right)
+      (lowered_ends left small.0 behind vs next to line e (omega (arith, few)) falls w)
+      (λ us later to' line' m f. lowered_ends right small.1 (behind + count left) us later to' line' (omega (arith, m, e)) (omega (arith, m, few)) f w)

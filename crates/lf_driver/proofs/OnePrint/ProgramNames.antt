@@ -2,8 +2,9 @@
 use Rattle.std.proofs.Common.{◌≡◌, ℕ, ◌+◌, ◌%◌, ◌^◌, ◌<◌, ◌≤◌, true, false, List, [], ◌∷◌, ◌++◌, length, Some, codes, cond, refl, sym, ap, ◌∙◌, arith}
 use Rattle.std.specs.Fmt.{decimal}
 use Rattle.std.specs.Prelude.{nat_eq}
-use Rattle.std.proofs.lemmas.Fmt.{decimal_by_steps}
+use Rattle.std.proofs.lemmas.Fmt.{decimal_by_steps, decimal_by_steps_wide}
 use Rattle.std.proofs.lemmas.Bool.Decides.{nat_tests}
+use Rattle.lf_base.specs.Outcome.{Location}
 use Rattle.c_nodes.specs.declared.tree.CItem.{CItem}
 use Rattle.c_nodes.specs.declared.tree.CResult.TheVariants as result
 use Rattle.c_nodes.specs.declared.tree.CStmt.TheVariants.{Return}
@@ -11,7 +12,7 @@ use Rattle.c_semantics.specs.CMeaning.{Procedure, function_in}
 use Rattle.c_prelude.specs.Prelude.{prelude_items}
 use Rattle.lf_driver.specs.OnePrint.Source.{Source}
 use Rattle.lf_driver.specs.OnePrint.Lowered.{init_name, lowered_items}
-use Rattle.lf_driver.proofs.OnePrint.Temporaries.{same_name}
+use Rattle.lf_driver.proofs.OnePrint.Temporaries.{Few, same_name}
 
 -- a number begins with a digit
 pub record Digited (ds : List ℕ) : Type 0 where
@@ -22,6 +23,9 @@ pub record Digited (ds : List ℕ) : Type 0 where
 
 pub decimal_begins : (n : ℕ) → n < 2 ^ 64 → Digited (decimal n)
 decimal_begins n h = decimal_by_steps (λ m ds. Digited ds) (λ m small. record { first = 48 + m; rest = []; is = refl; small = omega arith }) (λ m ds large d. record { first = d.first; rest = d.rest ++ (48 + m % 10) ∷ []; is = ap (λ l. l ++ (48 + m % 10) ∷ []) d.is; small = d.small }) n h
+
+pub decimal_begins_wide : (n : ℕ) → Few n → Digited (decimal n)
+decimal_begins_wide n h = decimal_by_steps_wide (λ m ds. Digited ds) (λ m small. record { first = 48 + m; rest = []; is = refl; small = omega arith }) (λ m ds large d. record { first = d.first; rest = d.rest ++ (48 + m % 10) ∷ []; is = ap (λ l. l ++ (48 + m % 10) ∷ []) d.is; small = d.small }) n h
 
 pub no_digit : (l c : ℕ) → c ≤ 57 → 57 < l → nat_eq l c ≡ false
 no_digit l c h k = grind (arith, nat_tests)
@@ -35,12 +39,12 @@ skips c ds name rest h = simp (no_digit 97 c h (omega arith), no_digit 99 c h (o
 abbrev pub init_procedure : Procedure
 init_procedure = record { file = 0; result = result.Void; parameters = []; body = Return ∷ [] }
 
-pub init_found : (source : Source) → length source.name < 2 ^ 64 → function_in (init_name source.name) true 0 (prelude_items ++ lowered_items source) ≡ Some init_procedure
-init_found source h =
+pub init_found : (location : Location) (source : Source) → length source.name < 2 ^ 64 → function_in (init_name source.name) true 0 (prelude_items ++ lowered_items location source) ≡ Some init_procedure
+init_found location source h =
     let d = decimal_begins (length source.name) h in
     let name : List ℕ = init_with (d.first ∷ d.rest) source.name in
     let is : init_name source.name ≡ name = ap (λ ds. init_with ds source.name) d.is in
-    ap (λ l. function_in l true 0 (prelude_items ++ lowered_items source)) is
-    ∙ skips d.first d.rest source.name (lowered_items source) d.small
-    ∙ ap (λ l. function_in l true 0 (lowered_items source)) (sym is)
+    ap (λ l. function_in l true 0 (prelude_items ++ lowered_items location source)) is
+    ∙ skips d.first d.rest source.name (lowered_items location source) d.small
+    ∙ ap (λ l. function_in l true 0 (lowered_items location source)) (sym is)
     ∙ ap (λ b. cond b (Some init_procedure) (function_in (init_name source.name) true 0 [])) (same_name (init_name source.name))

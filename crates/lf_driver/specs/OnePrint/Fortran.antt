@@ -7,7 +7,7 @@ use Rattle.std.specs.Prelude.{ℕ, ◌≤◌, Bool, ◌&&◌, if◌then◌else�
 use Rattle.std.specs.Fmt.{signed_decimal}
 use Rattle.std.proofs.Math.IntN.{ℤ}
 use Rattle.lf_base.specs.Outcome.{Location, Meaning, written}
-use Rattle.lf_base.specs.Acts.{Act, bind, give, print, trap, outcome_of}
+use Rattle.lf_base.specs.Acts.{Act, bind, give, print, trap_at, outcome_of}
 use Rattle.lf_base.specs.declared.trap.Trap.TheVariants.{IntegerOverflow}
 use Rattle.lf_driver.specs.declared.one_print.built.Operator.{Operator}
 use Rattle.lf_driver.specs.declared.one_print.built.Operator.TheVariants.{Add, Subtract, Multiply}
@@ -41,12 +41,9 @@ abbrev pub value_of : Tree → Option ℤ
 value_of (Literal value) = of_kind4 (pos value)
 value_of (Binary operator left right) = operated operator (value_of left) (value_of right)
 
-abbrev pub overflow_text : List ℕ
-overflow_text = codes "lf: trap IntegerOverflow\n"
-
 -- the value, or the trap at a location
 abbrev pub value_or_trap : Location → Option ℤ → Act (List ℕ) ℤ
-value_or_trap location None = trap IntegerOverflow overflow_text (Some location)
+value_or_trap location None = trap_at IntegerOverflow location
 value_or_trap location (Some z) = give z
 
 -- The program with its one statement, which is at this location; it reads nothing, has no loop and calls nothing.

@@ -1,20 +1,22 @@
 -- The C file that a program is lowered to (ISO/IEC 9899:1999, 6.9), behind the prelude. Values are temporaries `t1`,
--- `t2` and so on in the order of evaluation, and each operation is checked for the range of kind 4.
+-- `t2` and so on in the order of evaluation, and each operation is checked for the range of kind 4. Before each call of a
+-- helper that may trap the location of the statement is noted.
 use Rattle.std.specs.Prelude.{ℕ, ◌+◌, false, List, [], ◌∷◌, ◌++◌, length, codes, Option, Some, None}
 use Rattle.std.specs.Fmt.{decimal}
+use Rattle.lf_base.specs.Outcome.{Location}
 use Rattle.c_nodes.specs.declared.tree.CType.TheVariants.{Int64}
 use Rattle.c_nodes.specs.declared.tree.CResult.TheVariants.{Void, Int}
 use Rattle.c_nodes.specs.declared.tree.CExpr.{CExpr}
-use Rattle.c_nodes.specs.declared.tree.CExpr.TheVariants.{Variable, Constant, Address}
+use Rattle.c_nodes.specs.declared.tree.CExpr.TheVariants.{Variable, Constant, Address, Literal as Text}
 use Rattle.c_nodes.specs.declared.tree.CStmt.{CStmt}
-use Rattle.c_nodes.specs.declared.tree.CStmt.TheVariants.{DeclareValue, DeclareCall, Call, Return, ReturnValue, Block}
+use Rattle.c_nodes.specs.declared.tree.CStmt.TheVariants.{DeclareValue, DeclareCall, Assign, Call, Return, ReturnValue, Block}
 use Rattle.c_nodes.specs.declared.tree.CItem.{CItem}
 use Rattle.c_nodes.specs.declared.tree.CItem.TheVariants.{Prototype, Function}
 use Rattle.c_nodes.specs.declared.tree.CFile.{CFile}
 use Rattle.c_prelude.specs.Prelude.{prelude_file}
 use Rattle.lf_driver.specs.declared.one_print.built.Operator.{Operator}
 use Rattle.lf_driver.specs.declared.one_print.built.Operator.TheVariants.{Add, Subtract, Multiply}
-use Rattle.lf_driver.specs.OnePrint.Source.{Tree, Literal, Binary, Source}
+use Rattle.lf_driver.specs.OnePrint.Source.{Tree, Literal, Binary, Source, location_of}
 
 -- the name of the temporary of a number
 abbrev pub temporary : ℕ → List ℕ
@@ -39,9 +41,13 @@ computed operator left right number = DeclareCall Int64 (temporary number) (help
 abbrev pub fitted : ℕ → ℕ → CStmt
 fitted of number = DeclareCall Int64 (temporary number) (codes "lf_fit") (temporary_value of ∷ [])
 
+-- the lines that note where a trap of the next statement shows
+abbrev pub noted : Location → List CStmt
+noted location = Assign (Variable (codes "lf_name")) (Text location.source) ∷ Assign (Variable (codes "lf_line")) (Constant location.line) ∷ []
+
 -- an operation over two temporaries, behind so many temporaries
-abbrev pub operation : Operator → ℕ → ℕ → ℕ → List CStmt
-operation operator left right behind = computed operator left right (behind + 1) ∷ fitted (behind + 1) (behind + 2) ∷ []
+abbrev pub operation : Location → Operator → ℕ → ℕ → ℕ → List CStmt
+operation location operator left right behind = noted location ++ computed operator left right (behind + 1) ∷ noted location ++ fitted (behind + 1) (behind + 2) ∷ []
 
 -- how many temporaries a value takes; the last of them has it
 abbrev pub count : Tree → ℕ
@@ -49,10 +55,10 @@ count (Literal value) = 1
 count (Binary operator left right) = count left + count right + 2
 
 -- the statements that compute a value, behind so many temporaries
-abbrev pub lowered : Tree → ℕ → List CStmt
-lowered (Literal value) behind = constant (behind + 1) value ∷ []
-lowered (Binary operator left right) behind =
-    lowered left behind ++ (lowered right (behind + count left) ++ operation operator (behind + count left) (behind + count left + count right) (behind + count left + count right))
+abbrev pub lowered : Location → Tree → ℕ → List CStmt
+lowered location (Literal value) behind = constant (behind + 1) value ∷ []
+lowered location (Binary operator left right) behind =
+    lowered location left behind ++ (lowered location right (behind + count left) ++ operation location operator (behind + count left) (behind + count left + count right) (behind + count left + count right))
 
 -- the list-directed `print` of a value (ISO/IEC 1539-1:2018, 13.10.4)
 abbrev pub printing_begins : List CStmt
@@ -61,8 +67,8 @@ printing_begins = DeclareValue Int64 (codes "r1") (Constant 0) ∷ Call (codes "
 abbrev pub printing_ends : ℕ → List CStmt
 printing_ends number = Call (codes "lf_gap") (Address (Variable (codes "r1")) ∷ Constant 1 ∷ []) ∷ Call (codes "lf_int") (temporary_value number ∷ []) ∷ Call (codes "putchar") (Constant 10 ∷ []) ∷ []
 
-abbrev pub printed : Tree → List CStmt
-printed value = (printing_begins ++ lowered value 0) ++ printing_ends (count value)
+abbrev pub printed : Location → Tree → List CStmt
+printed location value = (printing_begins ++ lowered location value 0) ++ printing_ends (count value)
 
 -- the name in C of a program: `lf`, and the name behind its length
 abbrev pub unit_name : List ℕ → List ℕ
@@ -89,16 +95,16 @@ main_with name statements = Function false Int (codes "main") [] (body_with name
 abbrev pub items_with : List ℕ → List CStmt → List CItem
 items_with name statements = init_prototype name ∷ init_function name ∷ main_with name statements ∷ []
 
-abbrev pub main_body : Source → List CStmt
-main_body source = body_with source.name (printed source.value)
+abbrev pub main_body : Location → Source → List CStmt
+main_body location source = body_with source.name (printed location source.value)
 
-abbrev pub lowered_items : Source → List CItem
-lowered_items source = items_with source.name (printed source.value)
+abbrev pub lowered_items : Location → Source → List CItem
+lowered_items location source = items_with source.name (printed location source.value)
 
-abbrev pub lowered_file : Source → CFile
-lowered_file source = record { items = prelude_file.items ++ lowered_items source }
+abbrev pub lowered_file : Location → Source → CFile
+lowered_file location source = record { items = prelude_file.items ++ lowered_items location source }
 
--- the C file of what is built: the prelude alone, where nothing is
-abbrev pub c_file : Option Source → CFile
-c_file None = prelude_file
-c_file (Some source) = lowered_file source
+-- the C file of what is built of the file of this name: the prelude alone, where nothing is
+abbrev pub c_file : List ℕ → Option Source → CFile
+c_file file None = prelude_file
+c_file file (Some source) = lowered_file (location_of file source) source

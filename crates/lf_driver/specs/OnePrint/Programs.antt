@@ -1,13 +1,9 @@
 -- What sources mean of which programs are built: they have the meaning of their one main program (ISO/IEC 1539-1:2018,
 -- 5.2.2), and where there is none or a second one, none.
 use Rattle.std.specs.Prelude.{ℕ, List, [], ◌∷◌}
-use Rattle.lf_base.specs.Outcome.{Location, Meaning, Wrong, Stuck}
+use Rattle.lf_base.specs.Outcome.{Meaning, Wrong, Stuck}
 use Rattle.lf_driver.specs.OnePrint.Fortran.{FortranMeaning}
-use Rattle.lf_driver.specs.OnePrint.Source.{Source}
-
--- the location of the one statement that is executed
-abbrev pub location_of : List ℕ → Source → Location
-location_of file source = record { source = file; line = source.line }
+use Rattle.lf_driver.specs.OnePrint.Source.{Source, location_of}
 
 abbrev pub no_program : Meaning
 no_program input n d = Wrong Stuck

@@ -2,11 +2,12 @@ ghost use Rattle.std.specs.Prelude.{◌≡◌, ℕ, ◌+◌, List, [], ◌∷◌
 ghost use Rattle.std.specs.Fmt.{decimal};
 ghost use Rattle.c_prelude.specs.Prelude.{prelude_file};
 ghost use Rattle.c_nodes.specs.declared.tree.CType.TheVariants.{Int64};
-ghost use Rattle.c_nodes.specs.declared.tree.CStmt.TheVariants.{DeclareCall, DeclareValue, Call};
-ghost use Rattle.c_nodes.specs.declared.tree.CExpr.TheVariants.{Variable, Constant, Address};
+ghost use Rattle.c_nodes.specs.declared.tree.CStmt.TheVariants.{DeclareCall, DeclareValue, Assign, Call};
+ghost use Rattle.c_nodes.specs.declared.tree.CExpr.TheVariants.{Variable, Constant, Address, Literal};
 ghost use Rattle.lf_driver.specs.OnePrint.Built.{literal_of, literal_tree, tree_in};
-ghost use Rattle.lf_driver.specs.OnePrint.Emits.{Emits, EmitsPrint};
-ghost use Rattle.lf_driver.specs.OnePrint.Lowered.{temporary, temporary_value, helper, constant, computed, fitted, operation, printing_begins, printing_ends, unit_name, init_name, init_prototype, init_function, body_with, main_with, items_with};
+ghost use Rattle.lf_base.specs.Outcome.{Location};
+ghost use Rattle.lf_driver.specs.OnePrint.Emits.{Emits, EmitsPrint, location_at};
+ghost use Rattle.lf_driver.specs.OnePrint.Lowered.{temporary, temporary_value, helper, constant, computed, fitted, noted, operation, printing_begins, printing_ends, unit_name, init_name, init_prototype, init_function, body_with, main_with, items_with};
 
 use crate::one_print::built::{Operator, literal, operator_of};
 use ast_nodes::Expr;
@@ -17,50 +18,44 @@ use lf_base::{Memory, Name};
 use sqlite_items::{Boxed, Items};
 use std::alloc::Global;
 
+/// Where the statement stands that is lowered: in the file of this name, on this line.
+#[derive(Clone, Copy)]
+pub(crate) struct Located<'a> {
+    pub(crate) source: &'a [u8],
+    pub(crate) line: u32,
+}
+
 fn temporary(alloc: Global, number: usize) -> Result<Name, Memory>
     ensures { IfOk result (λ n. n ≡ temporary number) }
 {
     let mut text = Vec::new(alloc);
     let mut buffer = Buffer::new();
-    if text.extend_from_slice(b"t").is_err() {
-        return Err(Memory);
-    }
-    if text
-        .extend_from_slice(buffer.format(number).as_bytes())
-        .is_err()
-    {
-        return Err(Memory);
-    }
+    text.extend_from_slice(b"t")?;
+    text.extend_from_slice(buffer.format(number).as_bytes())?;
     Name::new(alloc, text.as_slice())
 }
 
 fn temporary_value(alloc: Global, number: usize) -> Result<CExpr, Memory>
     ensures { IfOk result (λ e. e ≡ temporary_value number) }
 {
-    match temporary(alloc, number) {
-        Ok(name) => Ok(CExpr::Variable { name }),
-        Err(Memory) => Err(Memory),
-    }
+    let name = temporary(alloc, number)?;
+    Ok(CExpr::Variable { name })
 }
 
 fn one(alloc: Global, item: CExpr) -> Result<Items<CExpr>, Memory>
     ensures { IfOk result (λ es. es ≡ item ∷ []) }
 {
     let mut items = Items::new(alloc);
-    match items.push(item) {
-        Ok(()) => Ok(items),
-        Err(_) => Err(Memory),
-    }
+    items.push(item)?;
+    Ok(items)
 }
 
 fn one_more(items: Items<CExpr>, item: CExpr) -> Result<Items<CExpr>, Memory>
     ensures { IfOk result (λ es. es ≡ items ++ item ∷ []) }
 {
     let mut items = items;
-    match items.push(item) {
-        Ok(()) => Ok(items),
-        Err(_) => Err(Memory),
-    }
+    items.push(item)?;
+    Ok(items)
 }
 
 fn helper(operator: Operator) -> &'static [u8]
@@ -76,10 +71,8 @@ fn helper(operator: Operator) -> &'static [u8]
 fn push(body: &mut Items<CStmt>, stmt: CStmt) -> Result<(), Memory>
     ensures { OnOk result (body.new ≡ body.old ++ stmt ∷ []) }
 {
-    match body.push(stmt) {
-        Ok(()) => Ok(()),
-        Err(_) => Err(Memory),
-    }
+    body.push(stmt)?;
+    Ok(())
 }
 
 fn constant(alloc: Global, number: usize, value: u64) -> Result<CStmt, Memory>
@@ -166,20 +159,55 @@ fn emit_constant(
     Ok(number)
 }
 
+fn literal_text(alloc: Global, text: &[u8]) -> Result<CExpr, Memory>
+    ensures { IfOk result (λ e. e ≡ Literal text.now) }
+{
+    Ok(CExpr::Literal {
+        bytes: Items::from_vec(Vec::from_slice(alloc, text)?),
+    })
+}
+
+fn assign(alloc: Global, target: &[u8], value: CExpr) -> Result<CStmt, Memory>
+    ensures { IfOk result (λ s. s ≡ Assign (Variable target.now) value) }
+{
+    let name = Name::new(alloc, target)?;
+    Ok(CStmt::Assign {
+        target: CExpr::Variable { name },
+        value,
+    })
+}
+
+// The lines that note where a trap of the next statement shows.
+fn note(alloc: Global, body: &mut Items<CStmt>, at: Located) -> Result<(), Memory>
+    ensures { OnOk result (body.new ≡ body.old ++ noted (location_at at)) }
+{
+    let source = literal_text(alloc, at.source)?;
+    let stmt = assign(alloc, b"lf_name", source)?;
+    push(body, stmt)?;
+    let line = CExpr::Constant {
+        value: u64::from(at.line),
+    };
+    let stmt = assign(alloc, b"lf_line", line)?;
+    push(body, stmt)
+}
+
 fn emit_operation(
     alloc: Global,
     body: &mut Items<CStmt>,
+    at: Located,
     operator: Operator,
     left: usize,
     right: usize,
     behind: usize,
 ) -> Result<usize, Memory>
-    ensures body { OnOk result (body.new ≡ body.old ++ operation operator left right behind) }
+    ensures body { OnOk result (body.new ≡ body.old ++ operation (location_at at) operator left right behind) }
     ensures count { IfOk result (λ n. n ≡ behind + 2) }
 {
+    note(alloc, body, at)?;
     let number = next(behind)?;
     let stmt = computed(alloc, operator, left, right, number)?;
     push(body, stmt)?;
+    note(alloc, body, at)?;
     let checked = next(number)?;
     let stmt = fitted(alloc, number, checked)?;
     push(body, stmt)?;
@@ -193,7 +221,7 @@ fn emit_literal(
     suffix: u8,
     behind: usize,
 ) -> Result<Option<usize>, Memory>
-    ensures { Emits result (literal_tree (literal_of digits.now suffix)) behind body.old body.new }
+    ensures { (location : Location) → Emits location result (literal_tree (literal_of digits.now suffix)) behind body.old body.new }
 {
     match literal(digits, suffix) {
         None => Ok(None),
@@ -209,10 +237,11 @@ fn emit_literal(
 fn emit(
     alloc: Global,
     body: &mut Items<CStmt>,
+    at: Located,
     value: &Expr,
     behind: usize,
 ) -> Result<Option<usize>, Memory>
-    ensures { Emits result (tree_in value.now) behind body.old body.new }
+    ensures { Emits (location_at at) result (tree_in value.now) behind body.old body.new }
 {
     match value {
         Expr::Int { digits, suffix } => {
@@ -226,13 +255,13 @@ fn emit(
             let Some(operator) = operator_of(*operator) else {
                 return Ok(None);
             };
-            let Some(left) = emit(alloc, body, left.get(), behind)? else {
+            let Some(left) = emit(alloc, body, at, left.get(), behind)? else {
                 return Ok(None);
             };
-            let Some(right) = emit(alloc, body, right.get(), left)? else {
+            let Some(right) = emit(alloc, body, at, right.get(), left)? else {
                 return Ok(None);
             };
-            let number = emit_operation(alloc, body, operator, left, right, right)?;
+            let number = emit_operation(alloc, body, at, operator, left, right, right)?;
             Ok(Some(number))
         }
         Expr::Log { .. }
@@ -283,10 +312,9 @@ fn record_place(alloc: Global) -> Result<CExpr, Memory>
     ensures { IfOk result (λ e. e ≡ Address (Variable (codes "r1"))) }
 {
     let place = named(alloc, b"r1")?;
-    match Boxed::new(alloc, place) {
-        Ok(place) => Ok(CExpr::Address { place }),
-        Err(_) => Err(Memory),
-    }
+    Ok(CExpr::Address {
+        place: Boxed::new(alloc, place)?,
+    })
 }
 
 fn gap(alloc: Global) -> Result<CStmt, Memory>
@@ -329,11 +357,15 @@ fn end_printing(alloc: Global, body: &mut Items<CStmt>, number: usize) -> Result
 }
 
 // The statements that print a value, if it is built.
-pub(crate) fn print_value(alloc: Global, value: &Expr) -> Result<Option<Items<CStmt>>, Memory>
-    ensures { EmitsPrint result (tree_in value.now) }
+pub(crate) fn print_value(
+    alloc: Global,
+    at: Located,
+    value: &Expr,
+) -> Result<Option<Items<CStmt>>, Memory>
+    ensures { EmitsPrint (location_at at) result (tree_in value.now) }
 {
     let mut body = begin_printing(alloc)?;
-    match emit(alloc, &mut body, value, 0)? {
+    match emit(alloc, &mut body, at, value, 0)? {
         None => Ok(None),
         Some(number) => {
             end_printing(alloc, &mut body, number)?;
@@ -345,10 +377,8 @@ pub(crate) fn print_value(alloc: Global, value: &Expr) -> Result<Option<Items<CS
 fn append(text: &mut Vec<u8>, more: &[u8]) -> Result<(), Memory>
     ensures { OnOk result (text.new.items ≡ text.old.items ++ more.now) }
 {
-    match text.extend_from_slice(more) {
-        Ok(()) => Ok(()),
-        Err(_) => Err(Memory),
-    }
+    text.extend_from_slice(more)?;
+    Ok(())
 }
 
 // `lf`, and the name behind its length.
@@ -441,10 +471,8 @@ fn main_function(alloc: Global, name: &[u8], statements: Items<CStmt>) -> Result
 fn push_item(items: &mut Items<CItem>, item: CItem) -> Result<(), Memory>
     ensures { OnOk result (items.new ≡ items.old ++ item ∷ []) }
 {
-    match items.push(item) {
-        Ok(()) => Ok(()),
-        Err(_) => Err(Memory),
-    }
+    items.push(item)?;
+    Ok(())
 }
 
 fn push_program(

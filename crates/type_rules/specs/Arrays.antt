@@ -3,23 +3,25 @@
 use Rattle.std.specs.Prelude.{◌≡◌, ℕ, zero, suc, ℤ, pos, ◌+◌, ◌*◌, max, ◌==◌, Bool, true, false, ◌&&◌, ◌||◌, if◌then◌else◌, List, [], ◌∷◌, length, Option, Some, None}
 use Rattle.std.specs.Option.{option_map, option_and_then}
 use Rattle.std.specs.Int.{int_min, int_max}
-use Rattle.type_rules.specs.Values.{Scalar, Integer, Logical, Characters, Outcome, Gives, Traps, NoRule, and_then, greatest, least}
+use Rattle.type_rules.specs.Values.{Scalar, Integer, Logical, Characters, Evaluation, Gives, Traps, NoRule, and_then, greatest, least}
 use Rattle.type_rules.specs.Store.{Value, Single, Array, Record, Values, none, more, nth}
-use Rattle.type_rules.specs.Codes.{operator_of, intrinsic_of}
+use Rattle.lf_base.specs.Operators.{operator_of}
+use Rattle.type_rules.specs.Codes.{intrinsic_of}
 use Rattle.type_rules.specs.Types.{element_of}
 use Rattle.type_rules.specs.Operations.{operation, on_integers}
 use Rattle.type_rules.specs.declared.ty.Elem.{Elem}
 use Rattle.type_rules.specs.declared.ty.Elem.TheVariants as elem
 use Rattle.type_rules.specs.declared.ty.Len.TheVariants as len
-use Rattle.type_rules.specs.declared.code.Operator.{Operator}
-use Rattle.type_rules.specs.declared.code.Operator.TheVariants.{Add, Subtract, Multiply, Concatenate, Not}
+use Rattle.lf_base.specs.declared.operator.Operator.{Operator}
+use Rattle.lf_base.specs.declared.operator.Operator.TheVariants.{Add, Subtract, Multiply, Concatenate, Not}
+use Rattle.type_rules.specs.declared.code.TheConstants.{SUM, PRODUCT, MAXVAL, MINVAL, COUNT, ANY, ALL}
 use Rattle.type_rules.specs.declared.code.Intrinsic.{Intrinsic}
 use Rattle.type_rules.specs.declared.code.Intrinsic.TheVariants.{Abs, Mod, Modulo, Min, Max, Sign, Iachar, Sum, Product, Maxval, Minval, Count, Any, All}
 use Rattle.type_rules.specs.declared.constant.Op.{Op}
 use Rattle.type_rules.specs.declared.constant.Op.TheVariants.{Unary, Binary, Intrinsic as IntrinsicOf, Convert}
-use Rattle.type_rules.specs.declared.trap.Trap.TheVariants.{ShapeMismatch}
+use Rattle.lf_base.specs.declared.trap.Trap.TheVariants.{ShapeMismatch}
 
-abbrev pub single : Outcome Scalar → Outcome Value
+abbrev pub single : Evaluation Scalar → Evaluation Value
 single (Gives s) = Gives (Single s)
 single (Traps trap) = Traps trap
 single NoRule = NoRule
@@ -70,12 +72,12 @@ abbrev pub operands_at : ℕ → List Value → Option (List Scalar)
 operands_at k [] = Some []
 operands_at k (v ∷ vs) = option_and_then (λ s. option_map (λ ss. s ∷ ss) (operands_at k vs)) (operand_at k v)
 
-abbrev pub on_operands : Op → Option (List Scalar) → Outcome Scalar
+abbrev pub on_operands : Op → Option (List Scalar) → Evaluation Scalar
 on_operands op (Some args) = operation op args
 on_operands op None = NoRule
 
 -- So many elements of the result, from this one on, in element order. The first that traps ends it.
-abbrev pub elements_from : Op → List Value → ℕ → ℕ → Outcome Values
+abbrev pub elements_from : Op → List Value → ℕ → ℕ → Evaluation Values
 elements_from op args k zero = Gives none
 elements_from op args k (suc count) =
     and_then (on_operands op (operands_at k args)) (λ s. and_then (elements_from op args (k + 1) count) (λ rest. Gives (more (Single s) rest)))
@@ -126,38 +128,38 @@ type_of_each (Convert kind) (a ∷ []) = Some (elem.Integer kind)
 type_of_each _ _ = None
 
 -- The array of the results, where all arrays have one shape.
-abbrev pub each_under : Op → List Value → List ℕ → Option Elem → Outcome Value
+abbrev pub each_under : Op → List Value → List ℕ → Option Elem → Evaluation Value
 each_under op args extents None = NoRule
 each_under op args extents (Some element) =
     if all_have extents args then and_then (elements_from op args 0 (size_of extents)) (λ elements. Gives (Array element extents elements))
     else Traps ShapeMismatch
 
-abbrev pub element_by_element : Op → List Value → Outcome Value
+abbrev pub element_by_element : Op → List Value → Evaluation Value
 element_by_element op args = each_under op args (first_extents args) (type_of_each op args)
 
 -- The elements in order, each joined with what came of those before.
-abbrev pub joined_by : (Scalar → Scalar → Outcome Scalar) → Scalar → Values → Outcome Scalar
+abbrev pub joined_by : (Scalar → Scalar → Evaluation Scalar) → Scalar → Values → Evaluation Scalar
 joined_by join so_far none = Gives so_far
 joined_by join so_far (more (Single s) rest) = and_then (join so_far s) (λ next. joined_by join next rest)
 joined_by join so_far (more (Array _ _ _) rest) = NoRule
 joined_by join so_far (more (Record _) rest) = NoRule
 
-abbrev pub integers : (ℤ → ℤ → Outcome Scalar) → Scalar → Scalar → Outcome Scalar
+abbrev pub integers : (ℤ → ℤ → Evaluation Scalar) → Scalar → Scalar → Evaluation Scalar
 integers join (Integer j a) (Integer k b) = join a b
 integers join _ _ = NoRule
 
-abbrev pub logicals : (Bool → Bool → Bool) → Scalar → Scalar → Outcome Scalar
+abbrev pub logicals : (Bool → Bool → Bool) → Scalar → Scalar → Evaluation Scalar
 logicals join (Logical p) (Logical q) = Gives (Logical (join p q))
 logicals join _ _ = NoRule
 
 -- One more, where it is true.
-abbrev pub counted : Scalar → Scalar → Outcome Scalar
+abbrev pub counted : Scalar → Scalar → Evaluation Scalar
 counted (Integer kind n) (Logical true) = on_integers Add kind n (pos 1)
 counted (Integer kind n) (Logical false) = Gives (Integer kind n)
 counted _ _ = NoRule
 
 -- An array without elements gives 0, 1, the least and the greatest value of the kind, no and all.
-abbrev pub reduced : Intrinsic → Elem → Values → Outcome Scalar
+abbrev pub reduced : Intrinsic → Elem → Values → Evaluation Scalar
 reduced Sum (elem.Integer kind) elements = joined_by (integers (on_integers Add kind)) (Integer kind (pos 0)) elements
 reduced Product (elem.Integer kind) elements = joined_by (integers (on_integers Multiply kind)) (Integer kind (pos 1)) elements
 reduced Maxval (elem.Integer kind) elements = joined_by (integers (λ a b. Gives (Integer kind (int_max a b)))) (Integer kind (least kind)) elements
@@ -178,32 +180,32 @@ reduces Any = true
 reduces All = true
 reduces _ = false
 
-abbrev pub reduction : Intrinsic → List Value → Outcome Value
+abbrev pub reduction : Intrinsic → List Value → Evaluation Value
 reduction which (Array element extents elements ∷ []) = single (reduced which element elements)
 reduction which _ = NoRule
 
-abbrev pub intrinsic_on : Option Intrinsic → Op → List Value → Outcome Value
+abbrev pub intrinsic_on : Option Intrinsic → Op → List Value → Evaluation Value
 intrinsic_on None op args = NoRule
 intrinsic_on (Some which) op args = if reduces which then reduction which args else element_by_element op args
 
-abbrev pub on_arrays : Op → List Value → Outcome Value
+abbrev pub on_arrays : Op → List Value → Evaluation Value
 on_arrays (IntrinsicOf code) args = intrinsic_on (intrinsic_of code) (IntrinsicOf code) args
 on_arrays op args = element_by_element op args
 
-abbrev pub on_values : Op → List Value → Option (List Scalar) → Outcome Value
+abbrev pub on_values : Op → List Value → Option (List Scalar) → Evaluation Value
 on_values op args (Some scalars) = single (operation op scalars)
 on_values op args None = on_arrays op args
 
 -- What an operation gives for these operands.
-abbrev pub operation_on : Op → List Value → Outcome Value
+abbrev pub operation_on : Op → List Value → Evaluation Value
 operation_on op args = on_values op args (scalars_of args)
 
 -- What the reductions give for an array without elements.
 pub record OfEmpty (kind : ℕ) : Type 0 where
-  pub sum : operation_on (IntrinsicOf 13) (Array (elem.Integer kind) (0 ∷ []) none ∷ []) ≡ Gives (Single (Integer kind (pos 0)))
-  pub product : operation_on (IntrinsicOf 14) (Array (elem.Integer kind) (0 ∷ []) none ∷ []) ≡ Gives (Single (Integer kind (pos 1)))
-  pub maxval : operation_on (IntrinsicOf 15) (Array (elem.Integer kind) (0 ∷ []) none ∷ []) ≡ Gives (Single (Integer kind (least kind)))
-  pub minval : operation_on (IntrinsicOf 16) (Array (elem.Integer kind) (0 ∷ []) none ∷ []) ≡ Gives (Single (Integer kind (greatest kind)))
-  pub count : operation_on (IntrinsicOf 17) (Array elem.Logical (0 ∷ []) none ∷ []) ≡ Gives (Single (Integer 4 (pos 0)))
-  pub any : operation_on (IntrinsicOf 18) (Array elem.Logical (0 ∷ []) none ∷ []) ≡ Gives (Single (Logical false))
-  pub all : operation_on (IntrinsicOf 19) (Array elem.Logical (0 ∷ []) none ∷ []) ≡ Gives (Single (Logical true))
+  pub sum : operation_on (IntrinsicOf SUM) (Array (elem.Integer kind) (0 ∷ []) none ∷ []) ≡ Gives (Single (Integer kind (pos 0)))
+  pub product : operation_on (IntrinsicOf PRODUCT) (Array (elem.Integer kind) (0 ∷ []) none ∷ []) ≡ Gives (Single (Integer kind (pos 1)))
+  pub maxval : operation_on (IntrinsicOf MAXVAL) (Array (elem.Integer kind) (0 ∷ []) none ∷ []) ≡ Gives (Single (Integer kind (least kind)))
+  pub minval : operation_on (IntrinsicOf MINVAL) (Array (elem.Integer kind) (0 ∷ []) none ∷ []) ≡ Gives (Single (Integer kind (greatest kind)))
+  pub count : operation_on (IntrinsicOf COUNT) (Array elem.Logical (0 ∷ []) none ∷ []) ≡ Gives (Single (Integer 4 (pos 0)))
+  pub any : operation_on (IntrinsicOf ANY) (Array elem.Logical (0 ∷ []) none ∷ []) ≡ Gives (Single (Logical false))
+  pub all : operation_on (IntrinsicOf ALL) (Array elem.Logical (0 ∷ []) none ∷ []) ≡ Gives (Single (Logical true))

@@ -4,9 +4,9 @@ use Rattle.std.specs.Option.{option_map, option_and_then}
 use Rattle.std.specs.Str.{bytes_eq}
 use Rattle.std.specs.FinMap.{FinMap, get, insert}
 use Rattle.std.specs.Ordering.{nat_cmp}
-use Rattle.type_rules.specs.Values.{Scalar, Characters, Outcome, Gives, Traps, NoRule, and_then}
+use Rattle.type_rules.specs.Values.{Scalar, Characters, Evaluation, Gives, Traps, NoRule, and_then}
 use Rattle.type_rules.specs.declared.ty.Elem.{Elem}
-use Rattle.type_rules.specs.declared.trap.Trap.TheVariants.{SubscriptOutOfRange, SubstringOutOfRange}
+use Rattle.lf_base.specs.declared.trap.Trap.TheVariants.{SubscriptOutOfRange, SubstringOutOfRange}
 
 -- A scalar; an array with its element type, its extents and its elements in element order; or a record with its
 -- components in order, by their names.
@@ -52,16 +52,16 @@ offset_in _ _ = None
 
 -- A part of a value: a component by its name, an element by its place in each dimension, or so many bytes of characters
 -- behind the first ones.
-pub data Step : Type 0 where
-  Component : (name : List ℕ) → Step
-  Element : (at : List ℕ) → Step
-  Bytes : (skipped : ℕ) (count : ℕ) → Step
+pub data Selector : Type 0 where
+  Component : (name : List ℕ) → Selector
+  Element : (at : List ℕ) → Selector
+  Bytes : (skipped : ℕ) (count : ℕ) → Selector
 
 abbrev pub cut_of : ℕ → ℕ → List ℕ → Option (List ℕ)
 cut_of skipped count bytes = if nat_le (skipped + count) (length bytes) then Some (take count (drop skipped bytes)) else None
 
--- One step into a value.
-abbrev pub part_of : Step → Value → Option Value
+-- One selector into a value.
+abbrev pub part_of : Selector → Value → Option Value
 part_of (Component name) (Record components) = component_of components name
 part_of (Element at) (Array element extents elements) = option_and_then (nth elements) (offset_in extents at)
 part_of (Bytes skipped count) (Single (Characters bytes)) = option_map (λ cut. Single (Characters cut)) (cut_of skipped count bytes)
@@ -75,25 +75,25 @@ spliced skipped count bytes (Single (Characters new)) =
     else None
 spliced _ _ _ _ = None
 
-abbrev pub with_part : Step → Value → Value → Option Value
+abbrev pub with_part : Selector → Value → Value → Option Value
 with_part (Component name) (Record components) new = Some (Record (with_component components name new))
 with_part (Element at) (Array element extents elements) new = option_map (λ k. Array element extents (with_nth elements k new)) (offset_in extents at)
 with_part (Bytes skipped count) (Single (Characters bytes)) new = spliced skipped count bytes new
 with_part _ _ _ = None
 
 -- The part at the end of a path, and the value with another one there.
-abbrev pub value_at : List Step → Value → Option Value
+abbrev pub value_at : List Selector → Value → Option Value
 value_at [] v = Some v
-value_at (step ∷ path) v = option_and_then (value_at path) (part_of step v)
+value_at (selector ∷ path) v = option_and_then (value_at path) (part_of selector v)
 
-abbrev pub with_value : List Step → Value → Value → Option Value
+abbrev pub with_value : List Selector → Value → Value → Option Value
 with_value [] new v = Some new
-with_value (step ∷ path) new v = option_and_then (λ old. option_and_then (with_part step v) (with_value path new old)) (part_of step v)
+with_value (selector ∷ path) new v = option_and_then (λ old. option_and_then (with_part selector v) (with_value path new old)) (part_of selector v)
 
 -- An instance of a variable, by its number, with a path into its value.
 pub record Place : Type 0 where
   pub instance : ℕ
-  pub path : List Step
+  pub path : List Selector
 
 -- What each instance of a variable holds.
 abbrev pub Store : Type 0
@@ -126,7 +126,7 @@ target_place (ToPlace place) = place
 target_place (ToCopy instance) = record { instance = instance; path = [] }
 
 -- A scalar of characters with a length of its own is the first bytes of what it is bound to.
-abbrev pub bound_path : List Bounds → Option ℕ → List Step
+abbrev pub bound_path : List Bounds → Option ℕ → List Selector
 bound_path [] (Some n) = Bytes 0 n ∷ []
 bound_path _ _ = []
 
@@ -134,20 +134,20 @@ abbrev pub place_of : Binding → Place
 place_of b = let there = target_place b.target in record { instance = there.instance; path = there.path ++ bound_path b.bounds b.length_of }
 
 -- A place in a dimension by its subscript, counted from the lower bound.
-abbrev pub position_in : Bounds → ℤ → Outcome ℕ
+abbrev pub position_in : Bounds → ℤ → Evaluation ℕ
 position_in b subscript =
     if int_le b.lower subscript && int_lt subscript (b.lower +ℤ pos b.extent)
     then Gives (unsigned_abs (subscript -ℤ b.lower))
     else Traps SubscriptOutOfRange
 
-abbrev pub positions_in : List Bounds → List ℤ → Outcome (List ℕ)
+abbrev pub positions_in : List Bounds → List ℤ → Evaluation (List ℕ)
 positions_in [] [] = Gives []
 positions_in (b ∷ bs) (s ∷ ss) = and_then (position_in b s) (λ k. and_then (positions_in bs ss) (λ ks. Gives (k ∷ ks)))
 positions_in _ _ = NoRule
 
 -- The bytes of a substring: how many stand in front, and how many there are. One whose first place is behind its last
 -- is empty.
-abbrev pub substring_of : ℤ → ℤ → ℕ → Outcome (ℕ × ℕ)
+abbrev pub substring_of : ℤ → ℤ → ℕ → Evaluation (ℕ × ℕ)
 substring_of first last n =
     if int_lt last first then Gives (0, 0)
     else if int_le (pos 1) first && int_le last (pos n) then Gives (unsigned_abs (first -ℤ pos 1), unsigned_abs (last -ℤ first +ℤ pos 1))

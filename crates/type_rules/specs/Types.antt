@@ -10,13 +10,13 @@ use Rattle.type_rules.specs.declared.ty.Len.{Len}
 use Rattle.type_rules.specs.declared.ty.Len.TheVariants as len
 use Rattle.type_rules.specs.declared.ty.Dim.{Dim}
 use Rattle.type_rules.specs.declared.ty.Dim.TheVariants as dim
-use Rattle.type_rules.specs.declared.code.Operator.{Operator}
-use Rattle.type_rules.specs.declared.code.Operator.TheVariants.{Add, Subtract, Multiply, Divide, Power, Concatenate, Eq, Ne, Lt, Le, Gt, Ge, And, Or, Eqv, Neqv}
+use Rattle.lf_base.specs.declared.operator.Operator.{Operator}
+use Rattle.lf_base.specs.declared.operator.Operator.TheVariants.{Add, Subtract, Multiply, Divide, Power, Concatenate, Eq, Ne, Lt, Le, Gt, Ge, And, Or, Eqv, Neqv}
 use Rattle.type_rules.specs.declared.constant.Op.{Op}
 use Rattle.type_rules.specs.declared.constant.Op.TheVariants.{Binary}
 use Rattle.type_rules.specs.declared.constant.TypeFault.{TypeFault}
 use Rattle.type_rules.specs.declared.constant.TypeFault.TheVariants.{Rule as Broken, Memory}
-use Rattle.type_rules.specs.Codes.{operator_of}
+use Rattle.lf_base.specs.Operators.{operator_of}
 
 -- The same type and kind, or the same derived type. Lengths of characters do not count.
 abbrev pub same_element : Elem → Elem → Bool

@@ -4,7 +4,7 @@ ghost use Rattle.std.specs.Int.{int_min, int_max};
 ghost use Rattle.type_rules.specs.Integers.{quotient, remainder, modulo, product_of, power, magnitude, sign};
 ghost use Rattle.type_rules.specs.Powers.{IsProduct, FitsAlike};
 
-use crate::trap::Trap;
+use lf_base::Trap;
 use std::cmp::Ordering;
 
 /// The order of two integers.

@@ -1,7 +1,7 @@
 //! Laws of the definitions, for the crates above. None of these functions does anything.
 ghost use Rattle.std.specs.Prelude.{◌≡◌, ℕ, ℤ, Ok, Some, ◌+ℤ◌, ◌*ℤ◌, List, length, map, true, false, ◌==◌};
 ghost use Rattle.type_rules.specs.Characters.{first_difference, DifferAt, trimmed, IsTrimmed, place_from, IsPlace};
-ghost use Rattle.type_rules.specs.Store.{Single, Value, Step, value_at, with_value, Store, Place, read, write};
+ghost use Rattle.type_rules.specs.Store.{Single, Value, Selector, value_at, with_value, Store, Place, read, write};
 ghost use Rattle.type_rules.specs.Arrays.{operation_on, single, OfEmpty};
 ghost use Rattle.type_rules.specs.Operations.{operation};
 ghost use Rattle.type_rules.specs.declared.constant.Op.{Op};
@@ -51,7 +51,7 @@ pub fn reductions_of_nothing()
 
 /// What was written at the end of a path is read there.
 pub fn written_is_read()
-    ensures { (path : List Step) (v new w : Value) → with_value path new v ≡ Some w → value_at path w ≡ Some new }
+    ensures { (path : List Selector) (v new w : Value) → with_value path new v ≡ Some w → value_at path w ≡ Some new }
 {}
 
 /// What an operation gives for constants is a constant: an integer that fits its kind, a logical 0 or 1,

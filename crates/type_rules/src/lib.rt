@@ -11,14 +11,14 @@ mod integer;
 pub mod law;
 mod matching;
 mod scalar;
-mod trap;
 mod ty;
 mod unifying;
 
-pub use code::{Intrinsic, Operator};
+pub use code::Intrinsic;
 pub use constant::{Const, Op, TypeFault};
 pub use folding::fold;
+pub use lf_base::Trap;
+pub use lf_base::operator::Operator;
 pub use matching::{distinguishable, resolve_generic, same_type};
-pub use trap::Trap;
 pub use ty::{Dim, Elem, Len, Ty};
 pub use unifying::unify;

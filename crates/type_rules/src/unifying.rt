@@ -2,10 +2,10 @@
 ghost use Rattle.std.specs.Prelude.{◌≡◌, ◌+◌, map, max, min};
 ghost use Rattle.type_rules.specs.Types.{element_of, of_integers, of_relation, arrays, type_under, of_logicals, of_characters, joined_length, from_one, joined_dim, joined_dims, known_apart, extents_apart, shape_of, scalars, shape_under, result_type, Shapes, Unifies};
 
-use crate::code::{Operator, operator_at};
 use crate::constant::{Op, TypeFault};
 use crate::ty::{Dim, Elem, Len, Ty};
 use lf_base::Rule;
+use lf_base::operator::Operator;
 use sqlite_items::Items;
 use std::alloc::Global;
 
@@ -19,7 +19,7 @@ pub fn unify(alloc: Global, op: Op, a: &Ty, b: &Ty) -> Result<Ty, TypeFault>
     ensures { Unifies result (result_type op a.now b.now) }
 {
     match op {
-        Op::Binary(code) => match operator_at(code) {
+        Op::Binary(code) => match Operator::at(code) {
             Some(op) => type_under(alloc, op, a, b),
             None => Err(TypeFault::Rule(Rule::E401)),
         },
@@ -31,10 +31,10 @@ fn type_under(alloc: Global, op: Operator, a: &Ty, b: &Ty) -> Result<Ty, TypeFau
     ensures { Unifies result (type_under (Some op) a.now b.now) }
 {
     match element_of(op, a.elem, b.elem) {
-        Some(elem) => match shape_under(alloc, op, a.dims.as_slice(), b.dims.as_slice()) {
-            Ok(dims) => Ok(Ty { elem, dims }),
-            Err(fault) => Err(fault),
-        },
+        Some(elem) => Ok(Ty {
+            elem,
+            dims: shape_under(alloc, op, a.dims.as_slice(), b.dims.as_slice())?,
+        }),
         None => Err(TypeFault::Rule(Rule::E401)),
     }
 }
@@ -164,9 +164,7 @@ fn from_one_each(alloc: Global, dims: &[Dim]) -> Dims
 {
     let mut all = Items::new(alloc);
     for dim in dims {
-        if all.push(from_one(*dim)).is_err() {
-            return Err(TypeFault::Memory);
-        }
+        all.push(from_one(*dim))?;
     }
     Ok(all)
 }
@@ -188,9 +186,7 @@ fn joined_dims(alloc: Global, a: &[Dim], b: &[Dim]) -> Dims
     for dim in a {
         match others {
             [other, more @ ..] => {
-                if all.push(joined_dim(*dim, *other)).is_err() {
-                    return Err(TypeFault::Memory);
-                }
+                all.push(joined_dim(*dim, *other))?;
                 others = more;
             }
             [] => return Ok(all),

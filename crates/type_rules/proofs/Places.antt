@@ -65,7 +65,7 @@ spliced_cut skipped count bytes (Single (Characters text)) w e = by ((length tex
     by false p f = cc
 spliced_cut skipped count bytes new w e = cc
 
-part_with : (s : Selector) (v old new w : Value) → part_of s v ≡ Some old → with_part s v new ≡ Some w → part_of s w ≡ Some new
+pub part_with : (s : Selector) (v old new w : Value) → part_of s v ≡ Some old → with_part s v new ≡ Some w → part_of s w ≡ Some new
 part_with (Component name) (Record cs) old new w e f =
     let s : Record (with_component cs name new) ≡ w = cc in
     subst (λ x. part_of (Component name) x ≡ Some new) s (component_with cs name old new e)

@@ -1,10 +1,10 @@
 -- The table of operations on values: on scalars, element by element on arrays, and the functions that reduce an array
 -- (ISO/IEC 1539-1:2018, 10.1.5, 10.1.9 and 16.9: ALL, ANY, COUNT, MAXVAL, MINVAL, PRODUCT, SUM).
-use Rattle.std.specs.Prelude.{◌≡◌, ℕ, zero, suc, ℤ, pos, ◌+◌, ◌*◌, max, ◌==◌, Bool, true, false, ◌&&◌, ◌||◌, if◌then◌else◌, List, [], ◌∷◌, length, Option, Some, None}
+use Rattle.std.specs.Prelude.{◌≡◌, ℕ, zero, suc, ℤ, pos, ◌+◌, max, ◌==◌, Bool, true, false, ◌&&◌, ◌||◌, if◌then◌else◌, List, [], ◌∷◌, length, Option, Some, None}
 use Rattle.std.specs.Option.{option_map, option_and_then}
 use Rattle.std.specs.Int.{int_min, int_max}
 use Rattle.type_rules.specs.Values.{Scalar, Integer, Logical, Characters, Evaluation, Gives, Traps, NoRule, and_then, greatest, least}
-use Rattle.type_rules.specs.Store.{Value, Single, Array, Record, Values, none, more, nth}
+use Rattle.type_rules.specs.Store.{Value, Single, Array, Record, Values, none, more, nth, size_of}
 use Rattle.lf_base.specs.Operators.{operator_of}
 use Rattle.type_rules.specs.Codes.{intrinsic_of}
 use Rattle.type_rules.specs.Types.{element_of}
@@ -50,11 +50,6 @@ all_have extents [] = true
 all_have extents (Array element xs elements ∷ vs) = same_extents extents xs && all_have extents vs
 all_have extents (Single _ ∷ vs) = all_have extents vs
 all_have extents (Record _ ∷ vs) = all_have extents vs
-
--- How many elements there are.
-abbrev pub size_of : List ℕ → ℕ
-size_of [] = 1
-size_of (extent ∷ extents) = extent * size_of extents
 
 -- The operands of one element, where a scalar is the operand of each.
 abbrev pub scalar_in : Option Value → Option Scalar

@@ -8,5 +8,7 @@ pub mod Powers
 pub mod Types
 pub mod Matching
 pub mod Store
+pub mod Shapes
 pub mod Counts
+pub mod Bindings
 pub mod Arrays

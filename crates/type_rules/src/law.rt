@@ -1,7 +1,7 @@
 //! Laws of the definitions, for the crates above. None of these functions does anything.
-ghost use Rattle.std.specs.Prelude.{◌≡◌, ℕ, ℤ, Ok, Some, ◌+ℤ◌, ◌*ℤ◌, List, length, map, true, false, ◌==◌};
+ghost use Rattle.std.specs.Prelude.{◌≡◌, ℕ, ℤ, Ok, Some, pos, ◌+ℤ◌, ◌-ℤ◌, ◌*ℤ◌, List, length, map, true, false, ◌==◌};
 ghost use Rattle.type_rules.specs.Characters.{first_difference, DifferAt, trimmed, IsTrimmed, place_from, IsPlace};
-ghost use Rattle.type_rules.specs.Store.{Single, Value, Selector, value_at, with_value, Store, Place, read, write};
+ghost use Rattle.type_rules.specs.Store.{Single, Value, Selector, value_at, with_value, Store, Place, read, write, held, with_held, map_of, places_apart};
 ghost use Rattle.type_rules.specs.Arrays.{operation_on, single, OfEmpty};
 ghost use Rattle.type_rules.specs.Operations.{operation};
 ghost use Rattle.type_rules.specs.declared.constant.Op.{Op};
@@ -9,8 +9,11 @@ ghost use Rattle.type_rules.specs.Values.{Exact, Scalar, Gives, fitted, IsExact,
 ghost use Rattle.type_rules.specs.Folds.{constant_given};
 ghost use Rattle.type_rules.specs.declared.constant.Const.{Const};
 ghost use Rattle.type_rules.specs.Matching.{matches, are_distinguishable, match_from, ArePairwiseDistinguishable, Resolves};
+ghost use Rattle.type_rules.specs.Bindings.{Bounds, Binding, position_in, positions_in, upper_of, substring_of, place_of, bound_value, IsPosition, AreElements, IsSubstring};
 ghost use Rattle.type_rules.specs.Counts.{section_count, IsWithinBounds};
-ghost use Rattle.std.specs.Ordering.{nat_cmp, eq_by_cmp};
+ghost use Rattle.std.specs.FinMap.{get, insert};
+ghost use Rattle.std.specs.Option.{option_map};
+ghost use Rattle.type_rules.specs.Shapes.{shape_of, shape_at, Definitions, IsValue};
 ghost use Rattle.type_rules.specs.declared.ty.Ty.{Ty};
 ghost use Rattle.type_rules.specs.Integers.{quotient, remainder, modulo, IsModulo, IsDivision};
 
@@ -81,9 +84,70 @@ pub fn resolution_is()
     ensures { (ss : List (List Ty)) (args : List Ty) → ArePairwiseDistinguishable ss → Resolves ss args (match_from 0 ss args) }
 {}
 
-/// A write leaves what every other instance of a variable holds.
-pub fn others_keep()
-    ensures { (store after : Store) (place other : Place) (new : Value) → write store place new ≡ Some after → eq_by_cmp nat_cmp other.instance place.instance ≡ false → read after other ≡ read store other }
+/// A write leaves all that has nothing in common with its place: another instance of a variable,
+/// another component, another element, other bytes.
+pub fn neighbours_keep()
+    ensures { (store after : Store) (place other : Place) (new : Value) → places_apart place other ≡ true → write store place new ≡ Some after → read after other ≡ read store other }
+{}
+
+/// What was written at a place is read there.
+pub fn place_is_written()
+    ensures { (store after : Store) (place : Place) (new : Value) → write store place new ≡ Some after → read after place ≡ Some new }
+{}
+
+/// The store is a map from the numbers of the instances.
+pub fn store_is_map()
+    ensures { (store : Store) (instance : ℕ) → held store instance ≡ get (map_of store) instance }
+{}
+
+/// To put another value in an instance is to insert it in that map.
+pub fn instance_is_inserted()
+    ensures { (store : Store) (instance : ℕ) (old new : Value) → held store instance ≡ Some old → (other : ℕ) → get (map_of (with_held store instance new)) other ≡ get (insert (map_of store) instance new) other }
+{}
+
+/// The shape of a part is the part of the shape.
+pub fn part_has_shape()
+    ensures { (path : List Selector) (value : Value) → option_map shape_of (value_at path value) ≡ shape_at path (shape_of value) }
+{}
+
+/// A value of the shape of a part can be put in its place, and the whole keeps its shape.
+pub fn value_keeps_shape()
+    ensures { (path : List Selector) (value old new : Value) → value_at path value ≡ Some old → shape_of new ≡ shape_of old → (after : Value) × (with_value path new value ≡ Some after) × (shape_of after ≡ shape_of value) }
+{}
+
+/// A write of a value of the shape of what is there is never stuck, and every instance keeps its shape.
+pub fn store_keeps_shapes()
+    ensures { (store : Store) (place : Place) (old new : Value) → read store place ≡ Some old → shape_of new ≡ shape_of old → (after : Store) × (write store place new ≡ Some after) × ((instance : ℕ) → option_map shape_of (held after instance) ≡ option_map shape_of (held store instance)) }
+{}
+
+/// A value of the shape of another has its types.
+pub fn type_is_of_shape()
+    ensures { (definitions : Definitions) (ty : Ty) (value other : Value) → shape_of other ≡ shape_of value → IsValue definitions ty value → IsValue definitions ty other }
+{}
+
+/// A subscript has a place exactly within the bounds of its dimension (ISO/IEC 1539-1:2018, 9.5.3.2).
+pub fn position_is()
+    ensures { (b : Bounds) (subscript : ℤ) → IsPosition b subscript (position_in b subscript) }
+{}
+
+/// Subscripts within the bounds choose one of the elements (ISO/IEC 1539-1:2018, 9.5.3.3).
+pub fn subscripts_choose_elements()
+    ensures { (bs : List Bounds) (subscripts : List ℤ) → AreElements bs (positions_in bs subscripts) }
+{}
+
+/// The upper bound of a dimension without elements is its lower bound less 1.
+pub fn empty_dimension()
+    ensures { (b : Bounds) → b.extent ≡ 0 → upper_of b ≡ b.lower -ℤ pos 1 }
+{}
+
+/// The bytes of a substring stand within the text (ISO/IEC 1539-1:2018, 9.4.1).
+pub fn substring_is()
+    ensures { (first last : ℤ) (n : ℕ) → IsSubstring first last n (substring_of first last n) }
+{}
+
+/// A dummy is the whole of what it is bound to, or its first bytes (ISO/IEC 1539-1:2018, 15.5.2.4).
+pub fn dummy_is()
+    ensures { (store : Store) (b : Binding) → read store (place_of b) ≡ bound_value store b }
 {}
 
 /// The elements of a section stand within the bounds.

@@ -1,6 +1,6 @@
 //! The type of an operation.
 ghost use Rattle.std.specs.Prelude.{◌≡◌, ◌+◌, map, max, min};
-ghost use Rattle.type_rules.specs.Types.{element_of, of_integers, of_relation, arrays, type_under, of_logicals, of_characters, joined_length, from_one, joined_dim, joined_dims, known_apart, extents_apart, shape_of, scalars, shape_under, result_type, Shapes, Unifies};
+ghost use Rattle.type_rules.specs.Types.{element_of, of_integers, of_relation, arrays, type_under, of_logicals, of_characters, joined_length, from_one, joined_dim, joined_dims, known_apart, extents_apart, conformed, scalars, dims_under, result_type, GivesDims, Unifies};
 
 use crate::constant::{Op, TypeFault};
 use crate::ty::{Dim, Elem, Len, Ty};
@@ -33,7 +33,7 @@ fn type_under(alloc: Global, op: Operator, a: &Ty, b: &Ty) -> Result<Ty, TypeFau
     match element_of(op, a.elem, b.elem) {
         Some(elem) => Ok(Ty {
             elem,
-            dims: shape_under(alloc, op, a.dims.as_slice(), b.dims.as_slice())?,
+            dims: dims_under(alloc, op, a.dims.as_slice(), b.dims.as_slice())?,
         }),
         None => Err(TypeFault::Rule(Rule::E401)),
     }
@@ -118,17 +118,17 @@ fn sum_of_lengths(m: u32, n: u32) -> u32
     if n <= u32::MAX - m { m + n } else { u32::MAX }
 }
 
-fn shape_under(alloc: Global, op: Operator, a: &[Dim], b: &[Dim]) -> Dims
-    ensures { Shapes result (shape_under op a.now b.now) }
+fn dims_under(alloc: Global, op: Operator, a: &[Dim], b: &[Dim]) -> Dims
+    ensures { GivesDims result (dims_under op a.now b.now) }
 {
     match op {
         Operator::Concatenate => scalars(alloc, a, b),
-        _ => shape_of(alloc, a, b),
+        _ => conformed(alloc, a, b),
     }
 }
 
 fn scalars(alloc: Global, a: &[Dim], b: &[Dim]) -> Dims
-    ensures { Shapes result (scalars a.now b.now) }
+    ensures { GivesDims result (scalars a.now b.now) }
 {
     match (a, b) {
         ([], []) => Ok(Items::new(alloc)),
@@ -136,8 +136,8 @@ fn scalars(alloc: Global, a: &[Dim], b: &[Dim]) -> Dims
     }
 }
 
-fn shape_of(alloc: Global, a: &[Dim], b: &[Dim]) -> Dims
-    ensures { Shapes result (shape_of a.now b.now) }
+fn conformed(alloc: Global, a: &[Dim], b: &[Dim]) -> Dims
+    ensures { GivesDims result (conformed a.now b.now) }
 {
     match (a, b) {
         ([], _) => from_one_each(alloc, b),
@@ -148,7 +148,7 @@ fn shape_of(alloc: Global, a: &[Dim], b: &[Dim]) -> Dims
 
 /// The shape of an operation on two arrays.
 fn arrays(alloc: Global, a: &[Dim], b: &[Dim]) -> Dims
-    ensures { Shapes result (arrays a.now b.now) }
+    ensures { GivesDims result (arrays a.now b.now) }
 {
     if a.len() != b.len() {
         return Err(TypeFault::Rule(Rule::E404));
@@ -160,7 +160,7 @@ fn arrays(alloc: Global, a: &[Dim], b: &[Dim]) -> Dims
 }
 
 fn from_one_each(alloc: Global, dims: &[Dim]) -> Dims
-    ensures { Shapes result (Ok (map from_one dims.now)) }
+    ensures { GivesDims result (Ok (map from_one dims.now)) }
 {
     let mut all = Items::new(alloc);
     for dim in dims {
@@ -179,7 +179,7 @@ fn from_one(dim: Dim) -> Dim
 }
 
 fn joined_dims(alloc: Global, a: &[Dim], b: &[Dim]) -> Dims
-    ensures { Shapes result (Ok (joined_dims a.now b.now)) }
+    ensures { GivesDims result (Ok (joined_dims a.now b.now)) }
 {
     let mut all = Items::new(alloc);
     let mut others = b;

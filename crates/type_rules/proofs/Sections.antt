@@ -1,23 +1,8 @@
--- The other instances of variables keep what they hold, and the elements of a section stand within the bounds.
-use Rattle.std.proofs.Common.{◌≡◌, ℕ, Bool, true, false, ◌&&◌, refl, sym, ◌∙◌, ap, cond, arith, ℤ, pos, ◌+ℤ◌, ◌-ℤ◌, ◌*ℤ◌, ◌==◌, if◌then◌else◌, Option, Some, None}
-use Rattle.std.specs.FinMap.{get, insert, get-insert}
-use Rattle.std.specs.Ordering.{nat_cmp, eq_by_cmp}
-use Rattle.std.specs.Option.{option_map, option_and_then}
-use Rattle.std.proofs.lemmas.Cmp.{nat_cmp_total}
-use Rattle.type_rules.specs.Store.{Value, Store, Place, read, write, with_value, value_at}
+-- The elements of a section stand within the bounds.
+use Rattle.std.proofs.Common.{◌≡◌, ℕ, Bool, true, false, ◌&&◌, refl, arith, ℤ, pos, ◌+ℤ◌, ◌-ℤ◌, ◌*ℤ◌, ◌==◌, if◌then◌else◌}
 use Rattle.type_rules.specs.Values.{Evaluation, Gives, Traps, NoRule, and_then, is_in_kind}
 use Rattle.type_rules.specs.Counts.{turns, is_within, section_count, IsWithinBounds}
 use Rattle.lf_base.specs.declared.trap.Trap.TheVariants.{SubscriptOutOfRange}
-
-pub others_keep : (store after : Store) (place other : Place) (new : Value) → write store place new ≡ Some after → eq_by_cmp nat_cmp other.instance place.instance ≡ false → read after other ≡ read store other
-others_keep store after place other new e apart = by (option_and_then (with_value place.path new) (get store place.instance)) e
-  where
-    by : (o : Option Value) → option_map (insert store place.instance) o ≡ Some after → read after other ≡ read store other
-    by None f = cc
-    by (Some v) f =
-        let same : insert store place.instance v ≡ after = cc in
-        let got = get-insert nat_cmp_total store place.instance v other.instance in
-        ap (λ s. option_and_then (value_at other.path) (get s other.instance)) (sym same) ∙ ap (option_and_then (value_at other.path)) (got ∙ ap (λ t. cond t (Some v) (get store other.instance)) apart)
 
 both_true : (p q : Bool) → (p && q) ≡ true → (p ≡ true) × (q ≡ true)
 both_true true true e = (refl, refl)

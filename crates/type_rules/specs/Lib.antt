@@ -6,6 +6,7 @@ pub mod Operations
 pub mod Folds
 pub mod Powers
 pub mod Types
+pub mod Typing
 pub mod Matching
 pub mod Store
 pub mod Shapes

@@ -1,5 +1,5 @@
 //! Laws of the definitions, for the crates above. None of these functions does anything.
-ghost use Rattle.std.specs.Prelude.{◌≡◌, ℕ, ℤ, Ok, Some, pos, ◌+ℤ◌, ◌-ℤ◌, ◌*ℤ◌, List, length, map, true, false, ◌==◌};
+ghost use Rattle.std.specs.Prelude.{◌≡◌, ℕ, ℤ, Ok, Some, pos, ◌+ℤ◌, ◌-ℤ◌, ◌*ℤ◌, List, [], ◌∷◌, length, map, true, false, ◌==◌};
 ghost use Rattle.type_rules.specs.Characters.{first_difference, DifferAt, trimmed, IsTrimmed, place_from, IsPlace};
 ghost use Rattle.type_rules.specs.Store.{Single, Value, Selector, value_at, with_value, Store, Place, read, write, held, with_held, map_of, places_apart};
 ghost use Rattle.type_rules.specs.Arrays.{operation_on, single, OfEmpty};
@@ -15,6 +15,9 @@ ghost use Rattle.std.specs.FinMap.{get, insert};
 ghost use Rattle.std.specs.Option.{option_map};
 ghost use Rattle.type_rules.specs.Shapes.{shape_of, shape_at, Definitions, IsValue};
 ghost use Rattle.type_rules.specs.declared.ty.Ty.{Ty};
+ghost use Rattle.type_rules.specs.declared.constant.Op.TheVariants.{Binary};
+ghost use Rattle.type_rules.specs.Types.{result_type};
+ghost use Rattle.type_rules.specs.Typing.{type_of};
 ghost use Rattle.type_rules.specs.Integers.{quotient, remainder, modulo, IsModulo, IsDivision};
 
 /// The defining equation of `modulo`.
@@ -153,4 +156,9 @@ pub fn dummy_is()
 /// The elements of a section stand within the bounds.
 pub fn sections_are_within()
     ensures { (first last step lower upper : ℤ) (n : ℕ) → section_count first last step lower upper ≡ Gives n → (n == 0) ≡ false → IsWithinBounds first step lower upper n }
+{}
+
+/// What `unify` answers is the type of that operation.
+pub fn unified_is_type()
+    ensures { (code : ℕ) (a b : Ty) → result_type (Binary code) a b ≡ type_of (Binary code) (a ∷ b ∷ []) }
 {}

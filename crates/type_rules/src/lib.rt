@@ -11,7 +11,9 @@ mod integer;
 pub mod law;
 mod matching;
 mod scalar;
+mod signature;
 mod ty;
+mod typing;
 mod unifying;
 
 pub use code::Intrinsic;
@@ -21,4 +23,5 @@ pub use lf_base::Trap;
 pub use lf_base::operator::Operator;
 pub use matching::{distinguishable, resolve_generic, same_type};
 pub use ty::{Dim, Elem, Len, Ty};
+pub use typing::type_of;
 pub use unifying::unify;

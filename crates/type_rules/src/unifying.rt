@@ -9,7 +9,7 @@ use lf_base::operator::Operator;
 use sqlite_items::Items;
 use std::alloc::Global;
 
-type Dims = Result<Items<Dim>, TypeFault>;
+pub type Dims = Result<Items<Dim>, TypeFault>;
 
 /// The type of a binary operation. It answers E401 exactly where no type comes of the types of the
 /// operands, else E404 exactly where both are arrays of different rank, or where `//` has an array,
@@ -40,7 +40,7 @@ fn type_under(alloc: Global, op: Operator, a: &Ty, b: &Ty) -> Result<Ty, TypeFau
 }
 
 /// The element type that an operator gives.
-fn element_of(op: Operator, a: Elem, b: Elem) -> Option<Elem>
+pub fn element_of(op: Operator, a: Elem, b: Elem) -> Option<Elem>
     ensures { result ≡ element_of op a b }
 {
     match (a, b) {
@@ -159,7 +159,7 @@ fn arrays(alloc: Global, a: &[Dim], b: &[Dim]) -> Dims
     joined_dims(alloc, a, b)
 }
 
-fn from_one_each(alloc: Global, dims: &[Dim]) -> Dims
+pub fn from_one_each(alloc: Global, dims: &[Dim]) -> Dims
     ensures { GivesDims result (Ok (map from_one dims.now)) }
 {
     let mut all = Items::new(alloc);
@@ -178,7 +178,7 @@ fn from_one(dim: Dim) -> Dim
     }
 }
 
-fn joined_dims(alloc: Global, a: &[Dim], b: &[Dim]) -> Dims
+pub fn joined_dims(alloc: Global, a: &[Dim], b: &[Dim]) -> Dims
     ensures { GivesDims result (Ok (joined_dims a.now b.now)) }
 {
     let mut all = Items::new(alloc);
@@ -205,7 +205,7 @@ fn joined_dim(a: Dim, b: Dim) -> Dim
 }
 
 /// Whether two extents are known and differ.
-fn extents_apart(a: &[Dim], b: &[Dim]) -> bool
+pub fn extents_apart(a: &[Dim], b: &[Dim]) -> bool
     ensures { result ≡ extents_apart a.now b.now }
 {
     let mut others = b;

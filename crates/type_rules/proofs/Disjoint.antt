@@ -52,7 +52,7 @@ written_map store i old new e j =
 same_names : (m n : List ℕ) → bytes_eq m n ≡ true → m ≡ n
 same_names m n e = (bytes_eq-Decides m n).0 e
 
-numbers_equal : (xs ys : List ℕ) → same_numbers xs ys ≡ true → xs ≡ ys
+pub numbers_equal : (xs ys : List ℕ) → same_numbers xs ys ≡ true → xs ≡ ys
 numbers_equal [] [] e = refl
 numbers_equal [] (y ∷ ys) e = cc
 numbers_equal (x ∷ xs) [] e = cc

@@ -14,3 +14,9 @@ pub mod TextLaws
 pub mod Resolution
 pub mod Sections
 pub mod Bindings
+pub mod Answering
+pub mod Judging
+pub mod Arrayed
+pub mod Elements
+pub mod Reductions
+pub mod Right

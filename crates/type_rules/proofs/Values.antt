@@ -23,7 +23,7 @@ use Rattle.type_rules.specs.declared.constant.Op.{Op}
 use Rattle.type_rules.specs.declared.constant.Op.TheVariants.{Unary, Binary, Intrinsic as IntrinsicOf, Convert}
 use Rattle.lf_base.specs.declared.trap.Trap.TheVariants.{IntegerOverflow, LengthLimit, BadCharacterCode}
 
-abbrev GivesValue : Evaluation Scalar → Type 0
+abbrev pub GivesValue : Evaluation Scalar → Type 0
 GivesValue (Gives s) = is_constant (constant_of s) ≡ true
 GivesValue (Traps trap) = Unit {0}
 GivesValue NoRule = Unit {0}
@@ -36,7 +36,7 @@ both_true false q e = cc
 from_both : (p q : Bool) → p ≡ true → q ≡ true → (p && q) ≡ true
 from_both p q e f = rw (e, f) refl
 
-fitted_value : (kind : ℕ) (exact : Exact) → is_kind kind ≡ true → GivesValue (fitted kind exact)
+pub fitted_value : (kind : ℕ) (exact : Exact) → is_kind kind ≡ true → GivesValue (fitted kind exact)
 fitted_value kind (Ok z) h = by (is_in_kind kind z) refl
   where
     by : (t : Bool) → is_in_kind kind z ≡ t → GivesValue (if t then Gives (Integer kind z) else Traps IntegerOverflow)
@@ -52,7 +52,7 @@ either_kind k h = by (k == 4) (k == 8) refl refl h
     by false true p q e = inr (grind arith)
     by false false p q e = cc
 
-greater_kind : (j k : ℕ) → is_kind j ≡ true → is_kind k ≡ true → is_kind (max j k) ≡ true
+pub greater_kind : (j k : ℕ) → is_kind j ≡ true → is_kind k ≡ true → is_kind (max j k) ≡ true
 greater_kind j k g h = by (either_kind j g) (either_kind k h)
   where
     by : (j ≡ 4) ⊎ (j ≡ 8) → (k ≡ 4) ⊎ (k ≡ 8) → is_kind (max j k) ≡ true
@@ -177,7 +177,7 @@ of_two_value which (Integer j a) (Integer k b) e f = of_integers_value which (ma
 of_two_value which (Characters a) (Characters b) e f = of_texts_value which a b
 of_two_value which a b e f = tt
 
-abbrev are_values : List Scalar → Bool
+abbrev pub are_values : List Scalar → Bool
 are_values [] = true
 are_values (s ∷ ss) = is_constant (constant_of s) && are_values ss
 
@@ -229,7 +229,7 @@ where_known_value : {A : Type 0} (o : Option A) (rule : A → Evaluation Scalar)
 where_known_value None rule h = tt
 where_known_value (Some a) rule h = h a
 
-operation_value : (op : Op) (args : List Scalar) → are_values args ≡ true → GivesValue (operation op args)
+pub operation_value : (op : Op) (args : List Scalar) → are_values args ≡ true → GivesValue (operation op args)
 operation_value (Unary code) [] e = tt
 operation_value (Unary code) (a ∷ []) e = where_known_value (operator_of code) (λ op. unary op a) (λ op. unary_value op a (both_true (is_constant (constant_of a)) true e).0)
 operation_value (Unary code) (a ∷ b ∷ rest) e = tt

@@ -13,3 +13,4 @@ pub mod Shapes
 pub mod Counts
 pub mod Bindings
 pub mod Arrays
+pub mod Judging

@@ -1,8 +1,8 @@
 //! Laws of the definitions, for the crates above. None of these functions does anything.
-ghost use Rattle.std.specs.Prelude.{◌≡◌, ℕ, ℤ, Ok, Some, pos, ◌+ℤ◌, ◌-ℤ◌, ◌*ℤ◌, List, [], ◌∷◌, length, map, true, false, ◌==◌};
+ghost use Rattle.std.specs.Prelude.{◌≡◌, ℕ, ℤ, Ok, Err, Some, pos, ◌+ℤ◌, ◌-ℤ◌, ◌*ℤ◌, List, [], ◌∷◌, length, map, true, false, ◌==◌};
 ghost use Rattle.type_rules.specs.Characters.{first_difference, DifferAt, trimmed, IsTrimmed, place_from, IsPlace};
 ghost use Rattle.type_rules.specs.Store.{Single, Value, Selector, value_at, with_value, Store, Place, read, write, held, with_held, map_of, places_apart};
-ghost use Rattle.type_rules.specs.Arrays.{operation_on, single, OfEmpty};
+ghost use Rattle.type_rules.specs.Arrays.{operation_on, single, type_at_run, OfEmpty};
 ghost use Rattle.type_rules.specs.Operations.{operation};
 ghost use Rattle.type_rules.specs.declared.constant.Op.{Op};
 ghost use Rattle.type_rules.specs.Values.{Exact, Scalar, Gives, fitted, IsExact, is_constant, are_constants, scalar_of};
@@ -17,7 +17,11 @@ ghost use Rattle.type_rules.specs.Shapes.{shape_of, shape_at, Definitions, IsVal
 ghost use Rattle.type_rules.specs.declared.ty.Ty.{Ty};
 ghost use Rattle.type_rules.specs.declared.constant.Op.TheVariants.{Binary};
 ghost use Rattle.type_rules.specs.Types.{result_type};
-ghost use Rattle.type_rules.specs.Typing.{type_of};
+ghost use Rattle.type_rules.specs.Typing.{type_of, judged, ranks_of};
+ghost use Rattle.lf_base.specs.declared.rule.Rule.{Rule};
+ghost use Rattle.type_rules.specs.declared.ty.Elem.{Elem};
+ghost use Rattle.type_rules.specs.Judging.{AllSuit, Answers, AreValues, IsRight, IsWrong};
+ghost use Rattle.type_rules.specs.declared.signature.Ranks.TheVariants.{OneArray};
 ghost use Rattle.type_rules.specs.Integers.{quotient, remainder, modulo, IsModulo, IsDivision};
 
 /// The defining equation of `modulo`.
@@ -161,4 +165,22 @@ pub fn sections_are_within()
 /// What `unify` answers is the type of that operation.
 pub fn unified_is_type()
     ensures { (code : ℕ) (a b : Ty) → result_type (Binary code) a b ≡ type_of (Binary code) (a ∷ b ∷ []) }
+{}
+
+/// An operation on scalars answers as their types say: a scalar of the type that there is, or a trap, or no
+/// rule where there is none. The functions that reduce an array are left out.
+pub fn scalars_answer()
+    ensures { (op : Op) (elements : List Elem) (scalars : List Scalar) → AllSuit elements scalars → (ranks_of op ≡ OneArray → ⊥) → Answers (judged op elements) (operation op scalars) }
+{}
+
+/// An operation on values whose types are right gives a value of its type, or traps: each operator, each
+/// conversion and each intrinsic function, on scalars, on arrays of each shape, and on arrays without
+/// elements.
+pub fn right_types_give()
+    ensures { (definitions : Definitions) (op : Op) (types : List Ty) (values : List Value) (ty : Ty) → AreValues definitions types values → type_of op types ≡ Ok ty → IsRight definitions ty (operation_on op values) }
+{}
+
+/// An operation on values whose types at run are wrong gives no value.
+pub fn wrong_types_give_none()
+    ensures { (definitions : Definitions) (op : Op) (types : List Ty) (values : List Value) (rule : Rule) → AreValues definitions types values → type_of op (map type_at_run values) ≡ Err rule → IsWrong (operation_on op values) }
 {}

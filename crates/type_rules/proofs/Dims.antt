@@ -12,6 +12,7 @@ use Rattle.type_rules.specs.declared.ty.Elem.{Elem}
 use Rattle.type_rules.specs.declared.ty.Dim.{Dim}
 use Rattle.type_rules.specs.declared.ty.Dim.TheVariants.{Fixed, Assumed}
 use Rattle.type_rules.specs.declared.constant.Op.TheVariants.{Binary}
+use Rattle.type_rules.specs.Equality.{identical_dims}
 use Rattle.type_rules.specs.Types.{joined_dims, joined_dim, from_one, extents_apart, conformed, scalars, dims_under, is_concatenation, typed, with_element, element_of, result_type, TakesMemory, GivesDims}
 use Rattle.type_rules.specs.Typing.{ranks_apart, some_ranks_apart, some_array, some_apart, joined, joined_with, dims_of_result, breaks_ranks, element_or_none, least_rule, type_of}
 use Rattle.type_rules.specs.declared.signature.Ranks.TheVariants.{Elementwise, Scalars}
@@ -25,6 +26,11 @@ pub apart_end : (xs others : List Dim) (whole : Bool) → length others < 1 → 
 apart_end [] [] whole h e = e
 apart_end (x ∷ xs) [] whole h e = e
 apart_end xs (o ∷ os) whole h e = absurd (omega arith)
+
+pub identical_end : (xs others : List Dim) (whole : Bool) → 0 < length xs → length others < 1 → identical_dims xs others ≡ whole → false ≡ whole
+identical_end [] others whole some h e = absurd (omega arith)
+identical_end (x ∷ xs) [] whole some h e = e
+identical_end (x ∷ xs) (o ∷ os) whole some h e = absurd (omega arith)
 
 -- What takes memory once takes it to the end.
 joined_takes : (a b : List Dim) → TakesMemory (Ok a) → TakesMemory (Ok (joined a b))

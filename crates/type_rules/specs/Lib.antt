@@ -14,3 +14,5 @@ pub mod Counts
 pub mod Bindings
 pub mod Arrays
 pub mod Judging
+pub mod Equality
+pub mod Identities

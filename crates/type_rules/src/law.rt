@@ -1,11 +1,13 @@
 //! Laws of the definitions, for the crates above. None of these functions does anything.
-ghost use Rattle.std.specs.Prelude.{◌≡◌, ℕ, ℤ, Ok, Err, Some, pos, ◌+ℤ◌, ◌-ℤ◌, ◌*ℤ◌, List, [], ◌∷◌, length, map, true, false, ◌==◌};
+ghost use Rattle.std.specs.Prelude.{◌≡◌, ℕ, ℤ, Ok, Err, Some, pos, negsuc, ◌+ℤ◌, ◌-ℤ◌, ◌*ℤ◌, List, [], ◌∷◌, length, map, true, false, ◌==◌};
 ghost use Rattle.type_rules.specs.Characters.{first_difference, DifferAt, trimmed, IsTrimmed, place_from, IsPlace};
 ghost use Rattle.type_rules.specs.Store.{Single, Value, Selector, value_at, with_value, Store, Place, read, write, held, with_held, map_of, places_apart};
 ghost use Rattle.type_rules.specs.Arrays.{operation_on, single, type_at_run, OfEmpty};
 ghost use Rattle.type_rules.specs.Operations.{operation};
 ghost use Rattle.type_rules.specs.declared.constant.Op.{Op};
-ghost use Rattle.type_rules.specs.Values.{Exact, Scalar, Gives, fitted, IsExact, is_constant, are_constants, scalar_of};
+ghost use Rattle.type_rules.specs.Values.{Exact, Scalar, Gives, fitted, IsExact, is_constant, are_constants, scalar_of, least};
+ghost use Rattle.std.specs.Bool.{Decides};
+ghost use Rattle.type_rules.specs.Equality.{identical_type, identical_constant, type_of_constant};
 ghost use Rattle.type_rules.specs.Folds.{constant_given};
 ghost use Rattle.type_rules.specs.declared.constant.Const.{Const};
 ghost use Rattle.type_rules.specs.Matching.{matches, are_distinguishable, match_from, ArePairwiseDistinguishable, Resolves};
@@ -183,4 +185,25 @@ pub fn right_types_give()
 /// An operation on values whose types at run are wrong gives no value.
 pub fn wrong_types_give_none()
     ensures { (definitions : Definitions) (op : Op) (types : List Ty) (values : List Value) (rule : Rule) → AreValues definitions types values → type_of op (map type_at_run values) ≡ Err rule → IsWrong (operation_on op values) }
+{}
+
+/// `==` of types says that they are the same in everything.
+pub fn types_decided()
+    ensures { (a b : Ty) → Decides (identical_type a b) (a ≡ b) }
+{}
+
+/// `==` of constants says that they are the same.
+pub fn constants_decided()
+    ensures { (a b : Const) → Decides (identical_constant a b) (a ≡ b) }
+{}
+
+/// A constant is a value of its type.
+pub fn constant_has_type()
+    ensures { (definitions : Definitions) (constant : Const) → is_constant constant ≡ true → IsValue definitions (type_of_constant constant) (Single (scalar_of constant)) }
+{}
+
+/// `mod` and `modulo` of the least value by -1 are 0, although their quotient has no number.
+pub fn least_by_minus_one()
+    ensures four { (remainder (least 4) (negsuc 0) ≡ Ok (pos 0)) × (modulo (least 4) (negsuc 0) ≡ Ok (pos 0)) }
+    ensures eight { (remainder (least 8) (negsuc 0) ≡ Ok (pos 0)) × (modulo (least 8) (negsuc 0) ≡ Ok (pos 0)) }
 {}

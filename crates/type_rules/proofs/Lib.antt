@@ -20,3 +20,4 @@ pub mod Arrayed
 pub mod Elements
 pub mod Reductions
 pub mod Right
+pub mod Targets

@@ -229,7 +229,7 @@ joins ds x e join (more (Array f xs us) rest) p j so_far a c h =
 joins ds x e join (more (Record cs) rest) p j so_far a c h =
     absurd (not_a_record ds (scalar_type e) cs (record { holds = (and_parts (is_of ds (scalar_type e) (shape_of (Record cs))) (are_of ds e (shapes_of rest)) h).0 }) p)
 
-good_fitted : (k : ℕ) (exact : Exact) → is_kind k ≡ true → Good (elem.Integer k) (fitted k exact)
+pub good_fitted : (k : ℕ) (exact : Exact) → is_kind k ≡ true → Good (elem.Integer k) (fitted k exact)
 good_fitted k (Ok z) h = by (is_in_kind k z) refl
   where
     by : (t : Bool) → is_in_kind k z ≡ t → Good (elem.Integer k) (if t then Gives (Integer k z) else Traps IntegerOverflow)

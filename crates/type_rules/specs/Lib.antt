@@ -16,3 +16,4 @@ pub mod Arrays
 pub mod Judging
 pub mod Equality
 pub mod Identities
+pub mod Assignment

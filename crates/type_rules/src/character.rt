@@ -15,13 +15,13 @@ use sqlite_items::Items;
 use std::alloc::Global;
 use std::cmp::Ordering;
 
-const BLANK: u8 = b' ';
+pub const BLANK: u8 = b' ';
 
 /// A character value has at most as many bytes.
-const LENGTH_LIMIT: usize = 65_535;
+pub const LENGTH_LIMIT: usize = 65_535;
 
 /// A character value.
-fn text(alloc: Global, bytes: &[u8]) -> Folded
+pub fn text(alloc: Global, bytes: &[u8]) -> Folded
     ensures { Folds result (Gives (Characters bytes.now)) }
 {
     Ok(Const::CharConst {

@@ -5,9 +5,10 @@ ghost use Rattle.type_rules.specs.Store.{Single, Value, Selector, value_at, with
 ghost use Rattle.type_rules.specs.Arrays.{operation_on, single, type_at_run, OfEmpty};
 ghost use Rattle.type_rules.specs.Operations.{operation};
 ghost use Rattle.type_rules.specs.declared.constant.Op.{Op};
-ghost use Rattle.type_rules.specs.Values.{Exact, Scalar, Gives, fitted, IsExact, is_constant, are_constants, scalar_of, least};
+ghost use Rattle.type_rules.specs.Values.{Exact, Scalar, Gives, fitted, IsExact, is_constant, are_constants, scalar_of, constant_of, least};
 ghost use Rattle.std.specs.Bool.{Decides};
 ghost use Rattle.type_rules.specs.Equality.{identical_type, identical_constant, type_of_constant};
+ghost use Rattle.type_rules.specs.Assignment.{assigned_scalar};
 ghost use Rattle.type_rules.specs.Folds.{constant_given};
 ghost use Rattle.type_rules.specs.declared.constant.Const.{Const};
 ghost use Rattle.type_rules.specs.Matching.{matches, are_distinguishable, match_from, ArePairwiseDistinguishable, Resolves};
@@ -15,7 +16,7 @@ ghost use Rattle.type_rules.specs.Bindings.{Bounds, Binding, position_in, positi
 ghost use Rattle.type_rules.specs.Counts.{section_count, IsWithinBounds};
 ghost use Rattle.std.specs.FinMap.{get, insert};
 ghost use Rattle.std.specs.Option.{option_map};
-ghost use Rattle.type_rules.specs.Shapes.{shape_of, shape_at, Definitions, IsValue};
+ghost use Rattle.type_rules.specs.Shapes.{shape_of, shape_at, scalar_type, Definitions, IsValue};
 ghost use Rattle.type_rules.specs.declared.ty.Ty.{Ty};
 ghost use Rattle.type_rules.specs.declared.constant.Op.TheVariants.{Binary};
 ghost use Rattle.type_rules.specs.Types.{result_type};
@@ -206,4 +207,9 @@ pub fn constant_has_type()
 pub fn least_by_minus_one()
     ensures four { (remainder (least 4) (negsuc 0) ≡ Ok (pos 0)) × (modulo (least 4) (negsuc 0) ≡ Ok (pos 0)) }
     ensures eight { (remainder (least 8) (negsuc 0) ≡ Ok (pos 0)) × (modulo (least 8) (negsuc 0) ≡ Ok (pos 0)) }
+{}
+
+/// What a scalar has after an assignment is a value of its type.
+pub fn assigned_has_type()
+    ensures { (definitions : Definitions) (element : Elem) (s after : Scalar) → is_constant (constant_of s) ≡ true → assigned_scalar element s ≡ Gives after → IsValue definitions (scalar_type element) (Single after) }
 {}

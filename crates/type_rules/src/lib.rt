@@ -3,6 +3,7 @@
 #![tactic(auto)]
 
 mod answer;
+mod assignment;
 mod character;
 pub mod code;
 mod constant;
@@ -17,6 +18,7 @@ mod ty;
 mod typing;
 mod unifying;
 
+pub use assignment::assigned_constant;
 pub use code::Intrinsic;
 pub use constant::{Const, Op, TypeFault};
 pub use equality::type_of_const;

@@ -13,6 +13,21 @@ use Rattle.type_rules.specs.declared.ty.Elem.{Elem}
 use Rattle.type_rules.specs.declared.ty.Elem.TheVariants as elem
 use Rattle.type_rules.specs.declared.ty.Len.{Len}
 use Rattle.type_rules.specs.declared.ty.Len.TheVariants as len
+use Rattle.std.proofs.lemmas.Bool.{and_parts, and_from}
+use Rattle.std.proofs.lemmas.Bool.Decides.{Decides-eqb}
+use Rattle.lf_base.specs.declared.trap.Trap.TheVariants.{ShapeMismatch}
+use Rattle.type_rules.specs.Values.{and_then}
+use Rattle.type_rules.specs.Store.{Value, Array, Record, Values, none, more, size_of, same_numbers}
+use Rattle.type_rules.specs.Shapes.{shape_of, shapes_of, is_of, are_of, is_array, is_element, are_extents, count_shapes}
+use Rattle.std.proofs.Common.{◌==◌, ◌&&◌, sym}
+use Rattle.type_rules.specs.Arrays.{single}
+use Rattle.type_rules.specs.Assignment.{assigned_record, assigned_part, assigned_each, copies, spread, in_extents, assigned, from_extents, IsIntrinsic}
+use Rattle.type_rules.specs.declared.ty.Ty.{Ty}
+use Rattle.type_rules.specs.declared.ty.Dim.{Dim}
+use Rattle.type_rules.proofs.Disjoint.{numbers_equal}
+use Rattle.type_rules.proofs.Judging.{scalar_of_type}
+use Rattle.type_rules.proofs.Arrayed.{Plain, array_of}
+use Rattle.type_rules.proofs.Reductions.{Closed}
 
 abbrev pub blanks : ℕ → List ℕ
 blanks n = replicate n 32
@@ -88,3 +103,118 @@ one_more_blank text all i h e =
     behind : (n : ℕ) → blanks n ++ blank ≡ blanks (suc n)
     behind zero = refl
     behind (suc n) = ap (λ (xs : List ℕ). 32 ∷ xs) (behind n)
+
+-- An array of the target's type.
+fixed_extents : (ns : List ℕ) → are_extents (from_extents ns) ns ≡ true
+fixed_extents [] = refl
+fixed_extents (n ∷ ns) = and_from (n == n) (are_extents (from_extents ns) ns) ((Decides-eqb n n).1 refl) (fixed_extents ns)
+
+copies_are : (ds : Definitions) (e : Elem) (v : Value) (n : ℕ) → is_of ds (scalar_type e) (shape_of v) ≡ true → (count_shapes (shapes_of (copies n v)) ≡ n) × (are_of ds e (shapes_of (copies n v)) ≡ true)
+copies_are ds e v zero h = (refl, refl)
+copies_are ds e v (suc n) h = let r = copies_are ds e v n h in (ap suc r.0, and_from (is_of ds (scalar_type e) (shape_of v)) (are_of ds e (shapes_of (copies n v))) h r.1)
+
+array_type : (ds : Definitions) (e : Elem) (n : ℕ) (ns : List ℕ) (vs : Values) → Closed e → count_shapes (shapes_of vs) ≡ size_of (n ∷ ns) → are_of ds e (shapes_of vs) ≡ true → IsValue ds (record { elem = e; dims = from_extents (n ∷ ns) }) (Array e (n ∷ ns) vs)
+array_type ds e n ns vs c q a = record {
+  holds = and_from (are_extents (from_extents (n ∷ ns)) (n ∷ ns)) (is_element e e && ((count_shapes (shapes_of vs) == size_of (n ∷ ns)) && are_of ds e (shapes_of vs))) (fixed_extents (n ∷ ns))
+      (and_from (is_element e e) ((count_shapes (shapes_of vs) == size_of (n ∷ ns)) && are_of ds e (shapes_of vs)) c
+      (and_from (count_shapes (shapes_of vs) == size_of (n ∷ ns)) (are_of ds e (shapes_of vs)) ((Decides-eqb (count_shapes (shapes_of vs)) (size_of (n ∷ ns))).1 q) a));
+}
+
+spread_type : (ds : Definitions) (e : Elem) (target : List ℕ) (v : Value) → Closed e → is_of ds (scalar_type e) (shape_of v) ≡ true → IsValue ds (record { elem = e; dims = from_extents target }) (spread e target v)
+spread_type ds e [] v c h = record { holds = h }
+spread_type ds e (n ∷ ns) v c h = let r = copies_are ds e v (size_of (n ∷ ns)) h in array_type ds e n ns (copies (size_of (n ∷ ns)) v) c r.0 r.1
+
+-- The parts in order.
+abbrev Parts : Definitions → Elem → ℕ → Evaluation Values → Type 0
+Parts ds e count (Gives vs) = (count_shapes (shapes_of vs) ≡ count) × (are_of ds e (shapes_of vs) ≡ true)
+Parts ds e count (Traps trap) = Unit {0}
+Parts ds e count NoRule = Unit {0}
+
+abbrev Part : Definitions → Elem → Evaluation Value → Type 0
+Part ds e (Gives v) = is_of ds (scalar_type e) (shape_of v) ≡ true
+Part ds e (Traps trap) = Unit {0}
+Part ds e NoRule = Unit {0}
+
+no_record : (e : Elem) (v : Value) → Plain e → assigned_record e v ≡ NoRule
+no_record (elem.Integer k) v p = refl
+no_record elem.Logical v p = refl
+no_record (elem.Character n) v p = refl
+no_record (elem.Derived s) v p = absurd p
+
+one_part : (ds : Definitions) (e f : Elem) (v : Value) → Plain e → is_of ds (scalar_type f) (shape_of v) ≡ true → Part ds e (assigned_part e v)
+one_part ds e f (Single s) p h = by (assigned_scalar e s) (assigns e s (scalar_of_type ds (scalar_type f) s h).constant)
+  where
+    by : (o : Evaluation Scalar) → Assigns e s o → Part ds e (single o)
+    by (Gives x) g = type_of_scalar ds e x g.0 g.1
+    by (Traps trap) g = tt
+    by NoRule g = tt
+one_part ds e f (Array g xs vs) p h = tt
+one_part ds e f (Record cs) p h = subst (Part ds e) (sym (no_record e (Record cs) p)) tt
+
+more_parts : (ds : Definitions) (e : Elem) (n : ℕ) (o : Evaluation Value) (rest : Evaluation Values) → Part ds e o → Parts ds e n rest → Parts ds e (suc n) (and_then o (λ u. and_then rest (λ us. Gives (more u us))))
+more_parts ds e n (Gives v) (Gives vs) h g = (ap suc g.0, and_from (is_of ds (scalar_type e) (shape_of v)) (are_of ds e (shapes_of vs)) h g.1)
+more_parts ds e n (Gives v) (Traps trap) h g = tt
+more_parts ds e n (Gives v) NoRule h g = tt
+more_parts ds e n (Traps trap) rest h g = tt
+more_parts ds e n NoRule rest h g = tt
+
+all_parts : (ds : Definitions) (e f : Elem) (vs : Values) → Plain e → are_of ds f (shapes_of vs) ≡ true → Parts ds e (count_shapes (shapes_of vs)) (assigned_each e vs)
+all_parts ds e f none p h = (refl, refl)
+all_parts ds e f (more v vs) p h =
+    let q = and_parts (is_of ds (scalar_type f) (shape_of v)) (are_of ds f (shapes_of vs)) h in
+    more_parts ds e (count_shapes (shapes_of vs)) (assigned_part e v) (assigned_each e vs) (one_part ds e f v p q.0) (all_parts ds e f vs p q.1)
+
+abbrev Ends : Definitions → Elem → List ℕ → Evaluation Value → Type 0
+Ends ds e target (Gives w) = IsValue ds (record { elem = e; dims = from_extents target }) w
+Ends ds e target (Traps trap) = Unit {0}
+Ends ds e target NoRule = Unit {0}
+
+spread_ends : (ds : Definitions) (e : Elem) (target : List ℕ) (o : Evaluation Value) → Closed e → Part ds e o → Ends ds e target (and_then o (λ v. Gives (spread e target v)))
+spread_ends ds e target (Gives v) c h = spread_type ds e target v c h
+spread_ends ds e target (Traps trap) c h = tt
+spread_ends ds e target NoRule c h = tt
+
+extents_end : (ds : Definitions) (e : Elem) (target extents : List ℕ) (vs : Values) → Closed e → (extents ≡ [] → ⊥) → count_shapes (shapes_of vs) ≡ size_of extents → are_of ds e (shapes_of vs) ≡ true → Ends ds e target (in_extents e target extents vs)
+extents_end ds e target [] vs c some q a = absurd (some refl)
+extents_end ds e target (n ∷ ns) vs c some q a = by (length target == length (n ∷ ns)) (same_numbers target (n ∷ ns)) refl
+  where
+    by : (t u : Bool) → same_numbers target (n ∷ ns) ≡ u → Ends ds e target (if t then (if u then Gives (Array e (n ∷ ns) vs) else Traps ShapeMismatch) else NoRule)
+    by true true h = let same = numbers_equal target (n ∷ ns) h in subst (λ (x : List ℕ). IsValue ds (record { elem = e; dims = from_extents x }) (Array e (n ∷ ns) vs)) (sym same) (array_type ds e n ns vs c q a)
+    by true false h = tt
+    by false u h = tt
+
+parts_end : (ds : Definitions) (e : Elem) (target extents : List ℕ) (o : Evaluation Values) → Closed e → (extents ≡ [] → ⊥) → Parts ds e (size_of extents) o → Ends ds e target (and_then o (λ vs. in_extents e target extents vs))
+parts_end ds e target extents (Gives vs) c some g = extents_end ds e target extents vs c some g.0 g.1
+parts_end ds e target extents (Traps trap) c some g = tt
+parts_end ds e target extents NoRule c some g = tt
+
+some_extents : (ds : List Dim) (ns : List ℕ) → is_array ds ns ≡ true → ns ≡ [] → ⊥
+some_extents [] ns h e = cc
+some_extents (d ∷ ds) [] h e = cc
+some_extents (d ∷ ds) (n ∷ ns) h e = cc
+
+ends : (ds : Definitions) (e : Elem) (target : List ℕ) (t : Ty) (v : Value) → Plain e → Closed e → IsValue ds t v → Ends ds e target (assigned e target v)
+ends ds e target t (Single s) p c h = spread_ends ds e target (assigned_part e (Single s)) c (by (assigned_scalar e s) (assigns e s (scalar_of_type ds t s h.holds).constant))
+  where
+    by : (o : Evaluation Scalar) → Assigns e s o → Part ds e (single o)
+    by (Gives x) g = type_of_scalar ds e x g.0 g.1
+    by (Traps trap) g = tt
+    by NoRule g = tt
+ends ds e target t (Record cs) p c h = spread_ends ds e target (assigned_part e (Record cs)) c (subst (Part ds e) (sym (no_record e (Record cs) p)) tt)
+ends ds e target t (Array element extents elements) p c h =
+    let a = array_of ds t element extents elements h in
+    parts_end ds e target extents (assigned_each e elements) c (some_extents t.dims extents a.array) (subst (λ (n : ℕ). Parts ds e n (assigned_each e elements)) a.count (all_parts ds e element elements p a.are))
+
+plain : (e : Elem) → IsIntrinsic e → Plain e
+plain (elem.Integer k) p = tt
+plain elem.Logical p = tt
+plain (elem.Character n) p = tt
+plain (elem.Derived s) p = p
+
+pub assigned_ends : (ds : Definitions) (e : Elem) (target : List ℕ) (t : Ty) (v w : Value) → IsIntrinsic e → is_element e e ≡ true → IsValue ds t v → assigned e target v ≡ Gives w → IsValue ds (record { elem = e; dims = from_extents target }) w
+assigned_ends ds e target t v w p c h f = by (assigned e target v) (ends ds e target t v (plain e p) c h) f
+  where
+    by : (o : Evaluation Value) → Ends ds e target o → o ≡ Gives w → IsValue ds (record { elem = e; dims = from_extents target }) w
+    by (Gives x) g f = let same : x ≡ w = cc in subst (λ (y : Value). IsValue ds (record { elem = e; dims = from_extents target }) y) same g
+    by (Traps trap) g f = cc
+    by NoRule g f = cc

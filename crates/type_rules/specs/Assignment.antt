@@ -1,6 +1,6 @@
 -- Intrinsic assignment (ISO/IEC 1539-1:2018, 10.2.1.3): the value is converted to the kind or the length of the target in element
 -- order, and only then the shapes are compared.
-use Rattle.std.specs.Prelude.{ℕ, zero, suc, nat_le, ◌==◌, if◌then◌else◌, List, [], ◌∷◌, length, Ok}
+use Rattle.std.specs.Prelude.{ℕ, pos, zero, suc, nat_le, ◌==◌, if◌then◌else◌, List, [], ◌∷◌, length, Ok}
 use Rattle.lf_base.specs.declared.trap.Trap.TheVariants.{LengthLimit, ShapeMismatch}
 use Rattle.type_rules.specs.Values.{Scalar, Integer, Logical, Characters, Evaluation, Gives, Traps, NoRule, and_then, fitted, is_kind}
 use Rattle.type_rules.specs.Characters.{in_length}
@@ -8,6 +8,8 @@ use Rattle.type_rules.specs.Store.{Value, Single, Array, Record, Values, none, m
 use Rattle.type_rules.specs.Arrays.{single}
 use Rattle.type_rules.specs.declared.ty.Elem.{Elem}
 use Rattle.type_rules.specs.declared.ty.Elem.TheVariants as elem
+use Rattle.type_rules.specs.declared.ty.Dim.{Dim}
+use Rattle.type_rules.specs.declared.ty.Dim.TheVariants as dim
 use Rattle.type_rules.specs.declared.ty.Len.{Len}
 use Rattle.type_rules.specs.declared.ty.Len.TheVariants as len
 
@@ -57,3 +59,12 @@ abbrev pub assigned : Elem → List ℕ → Value → Evaluation Value
 assigned e target (Single s) = and_then (assigned_part e (Single s)) (λ v. Gives (spread e target v))
 assigned e target (Record components) = and_then (assigned_part e (Record components)) (λ v. Gives (spread e target v))
 assigned e target (Array element extents elements) = and_then (assigned_each e elements) (λ vs. in_extents e target extents vs)
+
+-- The dimensions of a target with these extents, and an element type that is no derived one.
+abbrev pub from_extents : List ℕ → List Dim
+from_extents [] = []
+from_extents (n ∷ ns) = dim.Fixed (pos 1) n ∷ from_extents ns
+
+abbrev pub IsIntrinsic : Elem → Type 0
+IsIntrinsic (elem.Derived sym) = ⊥
+IsIntrinsic _ = Unit {0}

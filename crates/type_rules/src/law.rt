@@ -8,7 +8,7 @@ ghost use Rattle.type_rules.specs.declared.constant.Op.{Op};
 ghost use Rattle.type_rules.specs.Values.{Exact, Scalar, Gives, fitted, IsExact, is_constant, are_constants, scalar_of, constant_of, least};
 ghost use Rattle.std.specs.Bool.{Decides};
 ghost use Rattle.type_rules.specs.Equality.{identical_type, identical_constant, type_of_constant};
-ghost use Rattle.type_rules.specs.Assignment.{assigned_scalar};
+ghost use Rattle.type_rules.specs.Assignment.{assigned_scalar, assigned, from_extents, IsIntrinsic};
 ghost use Rattle.type_rules.specs.Folds.{constant_given};
 ghost use Rattle.type_rules.specs.declared.constant.Const.{Const};
 ghost use Rattle.type_rules.specs.Matching.{matches, are_distinguishable, match_from, ArePairwiseDistinguishable, Resolves};
@@ -16,7 +16,7 @@ ghost use Rattle.type_rules.specs.Bindings.{Bounds, Binding, position_in, positi
 ghost use Rattle.type_rules.specs.Counts.{section_count, IsWithinBounds};
 ghost use Rattle.std.specs.FinMap.{get, insert};
 ghost use Rattle.std.specs.Option.{option_map};
-ghost use Rattle.type_rules.specs.Shapes.{shape_of, shape_at, scalar_type, Definitions, IsValue};
+ghost use Rattle.type_rules.specs.Shapes.{shape_of, shape_at, scalar_type, is_element, Definitions, IsValue};
 ghost use Rattle.type_rules.specs.declared.ty.Ty.{Ty};
 ghost use Rattle.type_rules.specs.declared.constant.Op.TheVariants.{Binary};
 ghost use Rattle.type_rules.specs.Types.{result_type};
@@ -212,4 +212,9 @@ pub fn least_by_minus_one()
 /// What a scalar has after an assignment is a value of its type.
 pub fn assigned_has_type()
     ensures { (definitions : Definitions) (element : Elem) (s after : Scalar) → is_constant (constant_of s) ≡ true → assigned_scalar element s ≡ Gives after → IsValue definitions (scalar_type element) (Single after) }
+{}
+
+/// What a variable of an intrinsic type has after an assignment is a value of its type, also an array.
+pub fn target_has_type()
+    ensures { (definitions : Definitions) (element : Elem) (extents : List ℕ) (ty : Ty) (value after : Value) → IsIntrinsic element → is_element element element ≡ true → IsValue definitions ty value → assigned element extents value ≡ Gives after → IsValue definitions (record { elem = element; dims = from_extents extents }) after }
 {}

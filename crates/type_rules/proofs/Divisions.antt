@@ -6,7 +6,7 @@ use Rattle.std.proofs.lemmas.Int.{ints, quot-rem, rem_below}
 use Rattle.std.proofs.lemmas.Nat.{div-add-mod'}
 use Rattle.std.proofs.Math.IntN.{*ℤ-negsuc}
 use borrow.Author.Differences.{up, down, same_in, same_out, sum_is_lem, product_is}
-use Rattle.type_rules.specs.declared.trap.Trap.TheVariants.{DivisionByZero}
+use Rattle.lf_base.specs.declared.trap.Trap.TheVariants.{DivisionByZero}
 use Rattle.type_rules.specs.Values.{Exact}
 use Rattle.type_rules.specs.Integers.{quotient, remainder, modulo, IsModulo, IsDivision}
 

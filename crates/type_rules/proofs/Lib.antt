@@ -1,7 +1,9 @@
 pub mod Powers
 pub mod Tables
 pub mod Texts
+pub mod Dims
 pub mod Shapes
+pub mod Disjoint
 pub mod Divisions
 pub mod Matches
 pub mod Fits
@@ -10,4 +12,12 @@ pub mod Places
 pub mod Values
 pub mod TextLaws
 pub mod Resolution
-pub mod Instances
+pub mod Sections
+pub mod Bindings
+pub mod Answering
+pub mod Judging
+pub mod Arrayed
+pub mod Elements
+pub mod Reductions
+pub mod Right
+pub mod Targets

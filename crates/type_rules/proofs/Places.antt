@@ -5,7 +5,7 @@ use Rattle.std.specs.Str.{bytes_eq}
 use Rattle.std.proofs.lemmas.Option.{option_and_then_some}
 use Rattle.std.proofs.Math.Seq.{drop-append_seam, take-append_seam}
 use Rattle.type_rules.specs.Values.{Characters}
-use Rattle.type_rules.specs.Store.{Value, Single, Array, Record, Values, none, more, Components, no_component, component, nth, with_nth, component_of, with_component, offset_in, Step, Component, Element, Bytes, cut_of, part_of, spliced, with_part, value_at, with_value}
+use Rattle.type_rules.specs.Store.{Value, Single, Array, Record, Values, none, more, Components, no_component, component, nth, with_nth, component_of, with_component, offset_in, Selector, Component, Element, Bytes, cut_of, part_of, spliced, with_part, value_at, with_value}
 
 nth_with : (vs : Values) (k : ℕ) (old new : Value) → nth vs k ≡ Some old → nth (with_nth vs k new) k ≡ Some new
 nth_with none k old new e = cc
@@ -65,7 +65,7 @@ spliced_cut skipped count bytes (Single (Characters text)) w e = by ((length tex
     by false p f = cc
 spliced_cut skipped count bytes new w e = cc
 
-part_with : (s : Step) (v old new w : Value) → part_of s v ≡ Some old → with_part s v new ≡ Some w → part_of s w ≡ Some new
+pub part_with : (s : Selector) (v old new w : Value) → part_of s v ≡ Some old → with_part s v new ≡ Some w → part_of s w ≡ Some new
 part_with (Component name) (Record cs) old new w e f =
     let s : Record (with_component cs name new) ≡ w = cc in
     subst (λ x. part_of (Component name) x ≡ Some new) s (component_with cs name old new e)
@@ -80,7 +80,7 @@ part_with (Element at) (Array element extents vs) old new w e f = by (offset_in 
 part_with (Bytes skipped count) (Single (Characters bytes)) old new w e f = spliced_cut skipped count bytes new w f
 part_with s v old new w e f = cc
 
-pub written_is_read : (path : List Step) (v new w : Value) → with_value path new v ≡ Some w → value_at path w ≡ Some new
+pub written_is_read : (path : List Selector) (v new w : Value) → with_value path new v ≡ Some w → value_at path w ≡ Some new
 written_is_read [] v new w e = sym e
 written_is_read (s ∷ path) v new w e =
     option_and_then_some _ (part_of s v) w e (λ old p g.

@@ -1,7 +1,9 @@
 -- Powers of integers: those of -1, 0 and 1, and how the others grow.
-use Rattle.std.proofs.Common.{◌≡◌, ℕ, zero, suc, ◌+◌, ◌-◌, ◌*◌, ◌%◌, ◌≤◌, ◌<◌, Bool, true, false, ◌&&◌, refl, sym, ◌∙◌, ap, arith, ℤ, pos, negsuc, ◌*ℤ◌, ◌==◌, if◌then◌else◌}
+use Rattle.std.proofs.Common.{◌≡◌, ℕ, zero, suc, ◌+◌, ◌-◌, ◌*◌, ◌%◌, ◌≤◌, ◌<◌, Bool, true, false, ◌&&◌, refl, sym, ◌∙◌, ap, arith, ℤ, pos, negsuc, ◌*ℤ◌, ◌==◌, ◌^◌, ◌⊎◌, inl, inr, subst, if◌then◌else◌}
 use Rattle.std.specs.Prelude.{unsigned_abs, int_le}
 use Rattle.std.proofs.lemmas.Int.{ints, unsigned_abs-mul}
+use Rattle.std.proofs.lemmas.Nat.{pow_below}
+use Rattle.std.proofs.lemmas.Bool.{cases_lt}
 use Rattle.type_rules.specs.Values.{is_in_kind}
 use Rattle.type_rules.specs.Integers.{product_of}
 
@@ -89,3 +91,24 @@ of_minus_one_odd f n e h = rw e (sym (of_minus_one n ∙ by (n % 2) h))
 
 pub of_unit : (f : ℤ) (n : ℕ) → f ≡ pos 1 → pos 1 ≡ product_of f n
 of_unit f n e = rw e (sym (of_one n))
+
+-- Each factor doubles the magnitude at least, so that 64 of them are more than 64 bits hold.
+grows : (f : ℤ) (n : ℕ) → 2 ≤ unsigned_abs f → 2 ^ n ≤ unsigned_abs (product_of f n)
+grows f zero two = omega arith
+grows f (suc n) two = rw (unsigned_abs-mul (product_of f n) f) (by (2 ^ n) (unsigned_abs (product_of f n)) (unsigned_abs f) (2 ^ suc n) (pow_step n) (grows f n two) two)
+  where
+    pow_step : (n : ℕ) → 2 ^ suc n ≡ 2 ^ n * 2
+    pow_step n = grind arith
+
+    by : (a b c d : ℕ) → d ≡ a * 2 → a ≤ b → 2 ≤ c → d ≤ b * c
+    by a b c d e p q = grind arith
+
+pub few : (f p : ℤ) (n : ℕ) → 2 ≤ unsigned_abs f → product_of f n ≡ p → unsigned_abs p ≤ 9223372036854775808 → n ≤ 63
+few f p n two e small = by (cases_lt 63 n)
+  where
+    by : (63 < n) ⊎ (n ≤ 63) → n ≤ 63
+    by (inl h) =
+        let more : 2 ^ 63 < 2 ^ n = pow_below 63 n h in
+        let most = subst (λ z. 2 ^ n ≤ unsigned_abs z) e (grows f n two) in
+        absurd (omega arith)
+    by (inr h) = h

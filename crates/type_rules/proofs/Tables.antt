@@ -2,8 +2,8 @@
 use Rattle.std.proofs.Common.{◌≡◌, ℕ, ℤ, refl}
 use Rattle.std.specs.Ordering.{int_cmp}
 use Rattle.type_rules.specs.Operations.{on_integers, relation}
-use Rattle.type_rules.specs.declared.code.Operator.{Operator}
-use Rattle.type_rules.specs.declared.code.Operator.TheVariants.{Add, Subtract, Multiply, Divide, Power}
+use Rattle.lf_base.specs.declared.operator.Operator.{Operator}
+use Rattle.lf_base.specs.declared.operator.Operator.TheVariants.{Add, Subtract, Multiply, Divide, Power}
 
 pub no_arithmetic : (op : Operator) (kind : ℕ) (a b : ℤ) → (op ≡ Add → ⊥) → (op ≡ Subtract → ⊥) → (op ≡ Multiply → ⊥) → (op ≡ Divide → ⊥) → (op ≡ Power → ⊥) → on_integers op kind a b ≡ relation op (int_cmp a b)
 no_arithmetic Add kind a b h _ _ _ _ = absurd (h refl)

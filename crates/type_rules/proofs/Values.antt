@@ -4,14 +4,15 @@ use Rattle.type_rules.specs.Integers.{quotient, remainder, modulo, power, magnit
 use Rattle.std.specs.Ordering.{int_cmp}
 use Rattle.std.specs.Int.{int_min, int_max}
 use Rattle.std.specs.declared.cmp.Ordering.{Ordering}
-use Rattle.type_rules.specs.Values.{Scalar, Integer, Logical, Characters, Outcome, Gives, Traps, NoRule, Exact, fitted, is_in_kind, is_kind, is_constant, are_constants, scalar_of, constant_of}
+use Rattle.type_rules.specs.Values.{Scalar, Integer, Logical, Characters, Evaluation, Gives, Traps, NoRule, Exact, fitted, is_in_kind, is_kind, is_constant, are_constants, scalar_of, constant_of}
 use Rattle.type_rules.specs.Characters.{text_order, concatenated, trimmed, place_from, number_of_byte, byte_of_number}
 use Rattle.type_rules.specs.Operations.{is_less, is_equal, same_truth, relation, on_integers, on_logicals, on_texts, binary, on_integer, on_logical, unary, number, numbered, of_integer, of_text, of_one, of_integers, of_texts, of_two, extreme, extreme_of, picked, of_many, intrinsic, convert, where_known, operation}
 use Rattle.type_rules.specs.Folds.{constant_given, Folds}
-use Rattle.type_rules.specs.Codes.{operator_of, intrinsic_of}
+use Rattle.lf_base.specs.Operators.{operator_of}
+use Rattle.type_rules.specs.Codes.{intrinsic_of}
 use Rattle.type_rules.proofs.Texts.{trimmed_short}
-use Rattle.type_rules.specs.declared.code.Operator.{Operator}
-use Rattle.type_rules.specs.declared.code.Operator.TheVariants.{Add, Subtract, Multiply, Divide, Power, Concatenate, Eq, Ne, Lt, Le, Gt, Ge, And, Or, Eqv, Neqv, Not}
+use Rattle.lf_base.specs.declared.operator.Operator.{Operator}
+use Rattle.lf_base.specs.declared.operator.Operator.TheVariants.{Add, Subtract, Multiply, Divide, Power, Concatenate, Eq, Ne, Lt, Le, Gt, Ge, And, Or, Eqv, Neqv, Not}
 use Rattle.type_rules.specs.declared.code.Intrinsic.{Intrinsic}
 use Rattle.type_rules.specs.declared.code.Intrinsic.TheVariants.{Abs, Mod, Modulo, Min, Max, Sign, Iachar, Achar, Len, LenTrim, Trim, Index}
 use Rattle.type_rules.specs.declared.constant.Const.{Const}
@@ -20,9 +21,9 @@ use Rattle.std.specs.Prelude.{Result, IfOk}
 use Rattle.type_rules.specs.declared.constant.TypeFault.{TypeFault}
 use Rattle.type_rules.specs.declared.constant.Op.{Op}
 use Rattle.type_rules.specs.declared.constant.Op.TheVariants.{Unary, Binary, Intrinsic as IntrinsicOf, Convert}
-use Rattle.type_rules.specs.declared.trap.Trap.TheVariants.{IntegerOverflow, LengthLimit, BadCharacterCode}
+use Rattle.lf_base.specs.declared.trap.Trap.TheVariants.{IntegerOverflow, LengthLimit, BadCharacterCode}
 
-abbrev GivesValue : Outcome Scalar → Type 0
+abbrev pub GivesValue : Evaluation Scalar → Type 0
 GivesValue (Gives s) = is_constant (constant_of s) ≡ true
 GivesValue (Traps trap) = Unit {0}
 GivesValue NoRule = Unit {0}
@@ -35,7 +36,7 @@ both_true false q e = cc
 from_both : (p q : Bool) → p ≡ true → q ≡ true → (p && q) ≡ true
 from_both p q e f = rw (e, f) refl
 
-fitted_value : (kind : ℕ) (exact : Exact) → is_kind kind ≡ true → GivesValue (fitted kind exact)
+pub fitted_value : (kind : ℕ) (exact : Exact) → is_kind kind ≡ true → GivesValue (fitted kind exact)
 fitted_value kind (Ok z) h = by (is_in_kind kind z) refl
   where
     by : (t : Bool) → is_in_kind kind z ≡ t → GivesValue (if t then Gives (Integer kind z) else Traps IntegerOverflow)
@@ -51,7 +52,7 @@ either_kind k h = by (k == 4) (k == 8) refl refl h
     by false true p q e = inr (grind arith)
     by false false p q e = cc
 
-greater_kind : (j k : ℕ) → is_kind j ≡ true → is_kind k ≡ true → is_kind (max j k) ≡ true
+pub greater_kind : (j k : ℕ) → is_kind j ≡ true → is_kind k ≡ true → is_kind (max j k) ≡ true
 greater_kind j k g h = by (either_kind j g) (either_kind k h)
   where
     by : (j ≡ 4) ⊎ (j ≡ 8) → (k ≡ 4) ⊎ (k ≡ 8) → is_kind (max j k) ≡ true
@@ -176,7 +177,7 @@ of_two_value which (Integer j a) (Integer k b) e f = of_integers_value which (ma
 of_two_value which (Characters a) (Characters b) e f = of_texts_value which a b
 of_two_value which a b e f = tt
 
-abbrev are_values : List Scalar → Bool
+abbrev pub are_values : List Scalar → Bool
 are_values [] = true
 are_values (s ∷ ss) = is_constant (constant_of s) && are_values ss
 
@@ -224,11 +225,11 @@ convert_value kind (Integer k a) = by (is_kind kind) refl
 convert_value kind (Logical p) = tt
 convert_value kind (Characters a) = tt
 
-where_known_value : {A : Type 0} (o : Option A) (rule : A → Outcome Scalar) → ((a : A) → GivesValue (rule a)) → GivesValue (where_known o rule)
+where_known_value : {A : Type 0} (o : Option A) (rule : A → Evaluation Scalar) → ((a : A) → GivesValue (rule a)) → GivesValue (where_known o rule)
 where_known_value None rule h = tt
 where_known_value (Some a) rule h = h a
 
-operation_value : (op : Op) (args : List Scalar) → are_values args ≡ true → GivesValue (operation op args)
+pub operation_value : (op : Op) (args : List Scalar) → are_values args ≡ true → GivesValue (operation op args)
 operation_value (Unary code) [] e = tt
 operation_value (Unary code) (a ∷ []) e = where_known_value (operator_of code) (λ op. unary op a) (λ op. unary_value op a (both_true (is_constant (constant_of a)) true e).0)
 operation_value (Unary code) (a ∷ b ∷ rest) e = tt
@@ -255,7 +256,7 @@ all_same (c ∷ cs) e =
     let p = both_true (is_constant c) (are_constants cs) e in
     from_both (is_constant (constant_of (scalar_of c))) (are_values (map scalar_of cs)) (same_constant c p.0) (all_same cs p.1)
 
-given_value : (o : Outcome Scalar) (c : Const) → GivesValue o → constant_given o ≡ Some c → is_constant c ≡ true
+given_value : (o : Evaluation Scalar) (c : Const) → GivesValue o → constant_given o ≡ Some c → is_constant c ≡ true
 given_value (Gives s) c h e = let same : constant_of s ≡ c = cc in subst (λ d. is_constant d ≡ true) same h
 given_value (Traps trap) c h e = cc
 given_value NoRule c h e = cc

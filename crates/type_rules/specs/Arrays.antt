@@ -1,25 +1,31 @@
 -- The table of operations on values: on scalars, element by element on arrays, and the functions that reduce an array
 -- (ISO/IEC 1539-1:2018, 10.1.5, 10.1.9 and 16.9: ALL, ANY, COUNT, MAXVAL, MINVAL, PRODUCT, SUM).
-use Rattle.std.specs.Prelude.{◌≡◌, ℕ, zero, suc, ℤ, pos, ◌+◌, ◌*◌, max, ◌==◌, Bool, true, false, ◌&&◌, ◌||◌, if◌then◌else◌, List, [], ◌∷◌, length, Option, Some, None}
+use Rattle.std.specs.Prelude.{◌≡◌, ℕ, zero, suc, ℤ, pos, ◌+◌, Bool, true, false, ◌&&◌, ◌||◌, if◌then◌else◌, List, [], ◌∷◌, length, map, replicate, Option, Some, None}
 use Rattle.std.specs.Option.{option_map, option_and_then}
 use Rattle.std.specs.Int.{int_min, int_max}
-use Rattle.type_rules.specs.Values.{Scalar, Integer, Logical, Characters, Outcome, Gives, Traps, NoRule, and_then, greatest, least}
-use Rattle.type_rules.specs.Store.{Value, Single, Array, Record, Values, none, more, nth}
-use Rattle.type_rules.specs.Codes.{operator_of, intrinsic_of}
-use Rattle.type_rules.specs.Types.{element_of}
+use Rattle.lf_base.specs.declared.operator.Operator.TheVariants.{Add, Multiply}
+use Rattle.lf_base.specs.declared.trap.Trap.TheVariants.{ShapeMismatch}
+use Rattle.type_rules.specs.Values.{Scalar, Integer, Logical, Characters, Evaluation, Gives, Traps, NoRule, and_then, greatest, least}
+use Rattle.type_rules.specs.Store.{Value, Single, Array, Record, Values, none, more, nth, size_of, same_numbers}
+use Rattle.type_rules.specs.Codes.{intrinsic_of}
+use Rattle.type_rules.specs.Typing.{judged, ranks_of, breaks_ranks}
 use Rattle.type_rules.specs.Operations.{operation, on_integers}
+use Rattle.type_rules.specs.declared.ty.Ty.{Ty}
 use Rattle.type_rules.specs.declared.ty.Elem.{Elem}
 use Rattle.type_rules.specs.declared.ty.Elem.TheVariants as elem
 use Rattle.type_rules.specs.declared.ty.Len.TheVariants as len
-use Rattle.type_rules.specs.declared.code.Operator.{Operator}
-use Rattle.type_rules.specs.declared.code.Operator.TheVariants.{Add, Subtract, Multiply, Concatenate, Not}
+use Rattle.type_rules.specs.declared.ty.Dim.TheVariants as dim
+use Rattle.type_rules.specs.declared.signature.Judgement.{Judgement}
+use Rattle.type_rules.specs.declared.signature.Judgement.TheVariants.{Element, NoType, Misused}
+use Rattle.type_rules.specs.declared.signature.Ranks.{Ranks}
+use Rattle.type_rules.specs.declared.signature.Ranks.TheVariants.{Elementwise, Scalars, OneArray}
+use Rattle.type_rules.specs.declared.code.TheConstants.{SUM, PRODUCT, MAXVAL, MINVAL, COUNT, ANY, ALL}
 use Rattle.type_rules.specs.declared.code.Intrinsic.{Intrinsic}
-use Rattle.type_rules.specs.declared.code.Intrinsic.TheVariants.{Abs, Mod, Modulo, Min, Max, Sign, Iachar, Sum, Product, Maxval, Minval, Count, Any, All}
+use Rattle.type_rules.specs.declared.code.Intrinsic.TheVariants.{Sum, Product, Maxval, Minval, Count, Any, All}
 use Rattle.type_rules.specs.declared.constant.Op.{Op}
-use Rattle.type_rules.specs.declared.constant.Op.TheVariants.{Unary, Binary, Intrinsic as IntrinsicOf, Convert}
-use Rattle.type_rules.specs.declared.trap.Trap.TheVariants.{ShapeMismatch}
+use Rattle.type_rules.specs.declared.constant.Op.TheVariants.{Intrinsic as IntrinsicOf}
 
-abbrev pub single : Outcome Scalar → Outcome Value
+abbrev pub single : Evaluation Scalar → Evaluation Value
 single (Gives s) = Gives (Single s)
 single (Traps trap) = Traps trap
 single NoRule = NoRule
@@ -38,21 +44,11 @@ first_extents (Array element extents elements ∷ vs) = extents
 first_extents (Single _ ∷ vs) = first_extents vs
 first_extents (Record _ ∷ vs) = first_extents vs
 
-abbrev pub same_extents : List ℕ → List ℕ → Bool
-same_extents [] [] = true
-same_extents (m ∷ ms) (n ∷ ns) = (m == n) && same_extents ms ns
-same_extents _ _ = false
-
 abbrev pub all_have : List ℕ → List Value → Bool
 all_have extents [] = true
-all_have extents (Array element xs elements ∷ vs) = same_extents extents xs && all_have extents vs
+all_have extents (Array element xs elements ∷ vs) = same_numbers extents xs && all_have extents vs
 all_have extents (Single _ ∷ vs) = all_have extents vs
 all_have extents (Record _ ∷ vs) = all_have extents vs
-
--- How many elements there are.
-abbrev pub size_of : List ℕ → ℕ
-size_of [] = 1
-size_of (extent ∷ extents) = extent * size_of extents
 
 -- The operands of one element, where a scalar is the operand of each.
 abbrev pub scalar_in : Option Value → Option Scalar
@@ -70,94 +66,69 @@ abbrev pub operands_at : ℕ → List Value → Option (List Scalar)
 operands_at k [] = Some []
 operands_at k (v ∷ vs) = option_and_then (λ s. option_map (λ ss. s ∷ ss) (operands_at k vs)) (operand_at k v)
 
-abbrev pub on_operands : Op → Option (List Scalar) → Outcome Scalar
+abbrev pub on_operands : Op → Option (List Scalar) → Evaluation Scalar
 on_operands op (Some args) = operation op args
 on_operands op None = NoRule
 
 -- So many elements of the result, from this one on, in element order. The first that traps ends it.
-abbrev pub elements_from : Op → List Value → ℕ → ℕ → Outcome Values
+abbrev pub elements_from : Op → List Value → ℕ → ℕ → Evaluation Values
 elements_from op args k zero = Gives none
 elements_from op args k (suc count) =
     and_then (on_operands op (operands_at k args)) (λ s. and_then (elements_from op args (k + 1) count) (λ rest. Gives (more (Single s) rest)))
 
--- The element type of an operand, and of the result of an operation that is taken element by element.
-abbrev pub element_type : Value → Option Elem
-element_type (Single (Integer kind _)) = Some (elem.Integer kind)
-element_type (Single (Logical _)) = Some elem.Logical
-element_type (Single (Characters bytes)) = Some (elem.Character (len.Fixed (length bytes)))
-element_type (Array element extents elements) = Some element
-element_type (Record _) = None
+-- The element type of a value while the program runs, without its length: lengths are checked where the bytes are taken. The
+-- symbol of a derived type does not count, since no operation takes one.
+abbrev pub unmeasured : Elem → Elem
+unmeasured (elem.Integer kind) = elem.Integer kind
+unmeasured elem.Logical = elem.Logical
+unmeasured (elem.Character n) = elem.Character len.Assumed
+unmeasured (elem.Derived sym) = elem.Derived (record { 0 = 0 })
 
-abbrev pub kind_of : Option Elem → Option ℕ
-kind_of (Some (elem.Integer kind)) = Some kind
-kind_of _ = None
+abbrev pub element_at_run : Value → Elem
+element_at_run (Single (Integer kind value)) = elem.Integer kind
+element_at_run (Single (Logical truth)) = elem.Logical
+element_at_run (Single (Characters bytes)) = elem.Character len.Assumed
+element_at_run (Array element extents elements) = unmeasured element
+element_at_run (Record components) = elem.Derived (record { 0 = 0 })
 
-abbrev pub greatest_kind : List Value → Option ℕ
-greatest_kind [] = Some 0
-greatest_kind (v ∷ vs) = option_and_then (λ j. option_map (λ k. max j k) (greatest_kind vs)) (kind_of (element_type v))
+abbrev pub rank_of : Value → ℕ
+rank_of (Single scalar) = 0
+rank_of (Array element extents elements) = length extents
+rank_of (Record components) = 0
 
-abbrev pub unary_type : Option Operator → Value → Option Elem
-unary_type (Some Add) v = option_map elem.Integer (kind_of (element_type v))
-unary_type (Some Subtract) v = option_map elem.Integer (kind_of (element_type v))
-unary_type (Some Not) v = Some elem.Logical
-unary_type _ v = None
-
--- Concatenation takes scalars alone.
-abbrev pub binary_type : Option Operator → Value → Value → Option Elem
-binary_type None a b = None
-binary_type (Some Concatenate) a b = None
-binary_type (Some op) a b = option_and_then (λ e. option_and_then (λ f. element_of op e f) (element_type b)) (element_type a)
-
-abbrev pub intrinsic_type : Option Intrinsic → List Value → Option Elem
-intrinsic_type (Some Abs) args = option_map elem.Integer (greatest_kind args)
-intrinsic_type (Some Mod) args = option_map elem.Integer (greatest_kind args)
-intrinsic_type (Some Modulo) args = option_map elem.Integer (greatest_kind args)
-intrinsic_type (Some Min) args = option_map elem.Integer (greatest_kind args)
-intrinsic_type (Some Max) args = option_map elem.Integer (greatest_kind args)
-intrinsic_type (Some Sign) args = option_map elem.Integer (greatest_kind args)
-intrinsic_type (Some Iachar) args = Some (elem.Integer 4)
-intrinsic_type _ args = None
-
-abbrev pub type_of_each : Op → List Value → Option Elem
-type_of_each (Unary code) (a ∷ []) = unary_type (operator_of code) a
-type_of_each (Binary code) (a ∷ b ∷ []) = binary_type (operator_of code) a b
-type_of_each (IntrinsicOf code) args = intrinsic_type (intrinsic_of code) args
-type_of_each (Convert kind) (a ∷ []) = Some (elem.Integer kind)
-type_of_each _ _ = None
+-- The type of a value while the program runs, without its length and its extents.
+abbrev pub type_at_run : Value → Ty
+type_at_run v = record { elem = element_at_run v; dims = replicate (rank_of v) dim.Assumed }
 
 -- The array of the results, where all arrays have one shape.
-abbrev pub each_under : Op → List Value → List ℕ → Option Elem → Outcome Value
-each_under op args extents None = NoRule
-each_under op args extents (Some element) =
+abbrev pub each_under : Op → List Value → List ℕ → Elem → Evaluation Value
+each_under op args extents element =
     if all_have extents args then and_then (elements_from op args 0 (size_of extents)) (λ elements. Gives (Array element extents elements))
     else Traps ShapeMismatch
 
-abbrev pub element_by_element : Op → List Value → Outcome Value
-element_by_element op args = each_under op args (first_extents args) (type_of_each op args)
-
 -- The elements in order, each joined with what came of those before.
-abbrev pub joined_by : (Scalar → Scalar → Outcome Scalar) → Scalar → Values → Outcome Scalar
+abbrev pub joined_by : (Scalar → Scalar → Evaluation Scalar) → Scalar → Values → Evaluation Scalar
 joined_by join so_far none = Gives so_far
 joined_by join so_far (more (Single s) rest) = and_then (join so_far s) (λ next. joined_by join next rest)
 joined_by join so_far (more (Array _ _ _) rest) = NoRule
 joined_by join so_far (more (Record _) rest) = NoRule
 
-abbrev pub integers : (ℤ → ℤ → Outcome Scalar) → Scalar → Scalar → Outcome Scalar
+abbrev pub integers : (ℤ → ℤ → Evaluation Scalar) → Scalar → Scalar → Evaluation Scalar
 integers join (Integer j a) (Integer k b) = join a b
 integers join _ _ = NoRule
 
-abbrev pub logicals : (Bool → Bool → Bool) → Scalar → Scalar → Outcome Scalar
+abbrev pub logicals : (Bool → Bool → Bool) → Scalar → Scalar → Evaluation Scalar
 logicals join (Logical p) (Logical q) = Gives (Logical (join p q))
 logicals join _ _ = NoRule
 
 -- One more, where it is true.
-abbrev pub counted : Scalar → Scalar → Outcome Scalar
+abbrev pub counted : Scalar → Scalar → Evaluation Scalar
 counted (Integer kind n) (Logical true) = on_integers Add kind n (pos 1)
 counted (Integer kind n) (Logical false) = Gives (Integer kind n)
 counted _ _ = NoRule
 
 -- An array without elements gives 0, 1, the least and the greatest value of the kind, no and all.
-abbrev pub reduced : Intrinsic → Elem → Values → Outcome Scalar
+abbrev pub reduced : Intrinsic → Elem → Values → Evaluation Scalar
 reduced Sum (elem.Integer kind) elements = joined_by (integers (on_integers Add kind)) (Integer kind (pos 0)) elements
 reduced Product (elem.Integer kind) elements = joined_by (integers (on_integers Multiply kind)) (Integer kind (pos 1)) elements
 reduced Maxval (elem.Integer kind) elements = joined_by (integers (λ a b. Gives (Integer kind (int_max a b)))) (Integer kind (least kind)) elements
@@ -167,43 +138,43 @@ reduced Any elem.Logical elements = joined_by (logicals (λ p q. p || q)) (Logic
 reduced All elem.Logical elements = joined_by (logicals (λ p q. p && q)) (Logical true) elements
 reduced _ _ _ = NoRule
 
--- The functions that reduce an array, and the others.
-abbrev pub reduces : Intrinsic → Bool
-reduces Sum = true
-reduces Product = true
-reduces Maxval = true
-reduces Minval = true
-reduces Count = true
-reduces Any = true
-reduces All = true
-reduces _ = false
+abbrev pub reduction : Option Intrinsic → List Value → Evaluation Value
+reduction (Some which) (Array element extents elements ∷ []) = single (reduced which element elements)
+reduction _ _ = NoRule
 
-abbrev pub reduction : Intrinsic → List Value → Outcome Value
-reduction which (Array element extents elements ∷ []) = single (reduced which element elements)
-reduction which _ = NoRule
+abbrev pub reduced_by : Op → List Value → Evaluation Value
+reduced_by (IntrinsicOf code) args = reduction (intrinsic_of code) args
+reduced_by _ args = NoRule
 
-abbrev pub intrinsic_on : Option Intrinsic → Op → List Value → Outcome Value
-intrinsic_on None op args = NoRule
-intrinsic_on (Some which) op args = if reduces which then reduction which args else element_by_element op args
+-- Arrays are judged by their types, also those without elements: by the element types, then by the ranks, and by their extents
+-- only then.
+abbrev pub under_ranks : Ranks → Op → List Value → Elem → Evaluation Value
+under_ranks Elementwise op args element = each_under op args (first_extents args) element
+under_ranks OneArray op args element = reduced_by op args
+under_ranks Scalars op args element = NoRule
 
-abbrev pub on_arrays : Op → List Value → Outcome Value
-on_arrays (IntrinsicOf code) args = intrinsic_on (intrinsic_of code) (IntrinsicOf code) args
-on_arrays op args = element_by_element op args
+abbrev pub under_type : Op → List Value → Judgement → Bool → Evaluation Value
+under_type op args NoType ranks = NoRule
+under_type op args (Misused rule) ranks = NoRule
+under_type op args (Element element) ranks = if ranks then NoRule else under_ranks (ranks_of op) op args element
 
-abbrev pub on_values : Op → List Value → Option (List Scalar) → Outcome Value
+abbrev pub on_arrays : Op → List Value → Evaluation Value
+on_arrays op args = under_type op args (judged op (map element_at_run args)) (breaks_ranks (ranks_of op) (map rank_of args))
+
+abbrev pub on_values : Op → List Value → Option (List Scalar) → Evaluation Value
 on_values op args (Some scalars) = single (operation op scalars)
 on_values op args None = on_arrays op args
 
 -- What an operation gives for these operands.
-abbrev pub operation_on : Op → List Value → Outcome Value
+abbrev pub operation_on : Op → List Value → Evaluation Value
 operation_on op args = on_values op args (scalars_of args)
 
 -- What the reductions give for an array without elements.
 pub record OfEmpty (kind : ℕ) : Type 0 where
-  pub sum : operation_on (IntrinsicOf 13) (Array (elem.Integer kind) (0 ∷ []) none ∷ []) ≡ Gives (Single (Integer kind (pos 0)))
-  pub product : operation_on (IntrinsicOf 14) (Array (elem.Integer kind) (0 ∷ []) none ∷ []) ≡ Gives (Single (Integer kind (pos 1)))
-  pub maxval : operation_on (IntrinsicOf 15) (Array (elem.Integer kind) (0 ∷ []) none ∷ []) ≡ Gives (Single (Integer kind (least kind)))
-  pub minval : operation_on (IntrinsicOf 16) (Array (elem.Integer kind) (0 ∷ []) none ∷ []) ≡ Gives (Single (Integer kind (greatest kind)))
-  pub count : operation_on (IntrinsicOf 17) (Array elem.Logical (0 ∷ []) none ∷ []) ≡ Gives (Single (Integer 4 (pos 0)))
-  pub any : operation_on (IntrinsicOf 18) (Array elem.Logical (0 ∷ []) none ∷ []) ≡ Gives (Single (Logical false))
-  pub all : operation_on (IntrinsicOf 19) (Array elem.Logical (0 ∷ []) none ∷ []) ≡ Gives (Single (Logical true))
+  pub sum : operation_on (IntrinsicOf SUM) (Array (elem.Integer kind) (0 ∷ []) none ∷ []) ≡ Gives (Single (Integer kind (pos 0)))
+  pub product : operation_on (IntrinsicOf PRODUCT) (Array (elem.Integer kind) (0 ∷ []) none ∷ []) ≡ Gives (Single (Integer kind (pos 1)))
+  pub maxval : operation_on (IntrinsicOf MAXVAL) (Array (elem.Integer kind) (0 ∷ []) none ∷ []) ≡ Gives (Single (Integer kind (least kind)))
+  pub minval : operation_on (IntrinsicOf MINVAL) (Array (elem.Integer kind) (0 ∷ []) none ∷ []) ≡ Gives (Single (Integer kind (greatest kind)))
+  pub count : operation_on (IntrinsicOf COUNT) (Array elem.Logical (0 ∷ []) none ∷ []) ≡ Gives (Single (Integer 4 (pos 0)))
+  pub any : operation_on (IntrinsicOf ANY) (Array elem.Logical (0 ∷ []) none ∷ []) ≡ Gives (Single (Logical false))
+  pub all : operation_on (IntrinsicOf ALL) (Array elem.Logical (0 ∷ []) none ∷ []) ≡ Gives (Single (Logical true))

@@ -5,8 +5,8 @@ use Rattle.std.specs.List.{starts_with}
 use Rattle.std.specs.Ordering.{nat_cmp}
 use Rattle.std.specs.declared.cmp.Ordering.{Ordering}
 use Rattle.std.specs.declared.cmp.Ordering.TheVariants.{Equal}
-use Rattle.type_rules.specs.Values.{Scalar, Characters, Outcome, Gives, Traps}
-use Rattle.type_rules.specs.declared.trap.Trap.TheVariants.{SubstringOutOfRange, LengthLimit, BadCharacterCode}
+use Rattle.type_rules.specs.Values.{Scalar, Characters, Evaluation, Gives, Traps}
+use Rattle.lf_base.specs.declared.trap.Trap.TheVariants.{SubstringOutOfRange, LengthLimit, BadCharacterCode}
 
 -- The text with blanks at its end, up to this length.
 abbrev pub padded : ℕ → List ℕ → List ℕ
@@ -32,7 +32,7 @@ text_order a b =
     order_at (first_difference (padded n a) (padded n b))
 
 -- A value has at most 65,535 bytes.
-abbrev pub concatenated : List ℕ → List ℕ → Outcome Scalar
+abbrev pub concatenated : List ℕ → List ℕ → Evaluation Scalar
 concatenated a b = if nat_le (length a + length b) 65535 then Gives (Characters (a ++ b)) else Traps LengthLimit
 
 -- A byte in front of a text without blanks at its end.
@@ -51,12 +51,12 @@ place_from k d [] = if length d == 0 then k else 0
 place_from k d (c ∷ cs) = if starts_with nat_eq (c ∷ cs) d then k else place_from (k + 1) d cs
 
 -- The number of the one byte.
-abbrev pub number_of_byte : List ℕ → Outcome ℕ
+abbrev pub number_of_byte : List ℕ → Evaluation ℕ
 number_of_byte (b ∷ []) = Gives b
 number_of_byte _ = Traps SubstringOutOfRange
 
 -- The one byte of a number.
-abbrev pub byte_of_number : ℤ → Outcome Scalar
+abbrev pub byte_of_number : ℤ → Evaluation Scalar
 byte_of_number (pos n) = if nat_lt n 256 then Gives (Characters (n ∷ [])) else Traps BadCharacterCode
 byte_of_number (negsuc n) = Traps BadCharacterCode
 

@@ -2,7 +2,7 @@
 use Rattle.std.specs.Prelude.{◌≡◌, ℕ, zero, suc, ℤ, pos, negsuc, ◌+ℤ◌, ◌*ℤ◌, ◌<ℤ◌, ◌≤ℤ◌, ◌<◌, neg_ℤ, ◌==◌, if◌then◌else◌, int_lt, int_div, int_rem, unsigned_abs, Ok, Err}
 use Rattle.std.specs.Int.{int_rem_euclid}
 use Rattle.type_rules.specs.Values.{Exact}
-use Rattle.type_rules.specs.declared.trap.Trap.TheVariants.{DivisionByZero}
+use Rattle.lf_base.specs.declared.trap.Trap.TheVariants.{DivisionByZero}
 
 -- The integer between zero and the exact quotient that is nearest to it.
 abbrev pub quotient : ℤ → ℤ → Exact

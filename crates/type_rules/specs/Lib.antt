@@ -6,7 +6,14 @@ pub mod Operations
 pub mod Folds
 pub mod Powers
 pub mod Types
+pub mod Typing
 pub mod Matching
 pub mod Store
+pub mod Shapes
 pub mod Counts
+pub mod Bindings
 pub mod Arrays
+pub mod Judging
+pub mod Equality
+pub mod Identities
+pub mod Assignment

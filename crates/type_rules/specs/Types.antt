@@ -10,13 +10,13 @@ use Rattle.type_rules.specs.declared.ty.Len.{Len}
 use Rattle.type_rules.specs.declared.ty.Len.TheVariants as len
 use Rattle.type_rules.specs.declared.ty.Dim.{Dim}
 use Rattle.type_rules.specs.declared.ty.Dim.TheVariants as dim
-use Rattle.type_rules.specs.declared.code.Operator.{Operator}
-use Rattle.type_rules.specs.declared.code.Operator.TheVariants.{Add, Subtract, Multiply, Divide, Power, Concatenate, Eq, Ne, Lt, Le, Gt, Ge, And, Or, Eqv, Neqv}
+use Rattle.lf_base.specs.declared.operator.Operator.{Operator}
+use Rattle.lf_base.specs.declared.operator.Operator.TheVariants.{Add, Subtract, Multiply, Divide, Power, Concatenate, Eq, Ne, Lt, Le, Gt, Ge, And, Or, Eqv, Neqv}
 use Rattle.type_rules.specs.declared.constant.Op.{Op}
 use Rattle.type_rules.specs.declared.constant.Op.TheVariants.{Binary}
 use Rattle.type_rules.specs.declared.constant.TypeFault.{TypeFault}
 use Rattle.type_rules.specs.declared.constant.TypeFault.TheVariants.{Rule as Broken, Memory}
-use Rattle.type_rules.specs.Codes.{operator_of}
+use Rattle.lf_base.specs.Operators.{operator_of}
 
 -- The same type and kind, or the same derived type. Lengths of characters do not count.
 abbrev pub same_element : Elem → Elem → Bool
@@ -102,10 +102,10 @@ arrays a b =
     else Ok (joined_dims a b)
 
 -- The shape of an operation element by element, where a scalar conforms with every shape.
-abbrev pub shape_of : List Dim → List Dim → Result (List Dim) Rule
-shape_of [] bs = Ok (map from_one bs)
-shape_of (a ∷ xs) [] = Ok (map from_one (a ∷ xs))
-shape_of (a ∷ xs) (b ∷ ys) = arrays (a ∷ xs) (b ∷ ys)
+abbrev pub conformed : List Dim → List Dim → Result (List Dim) Rule
+conformed [] bs = Ok (map from_one bs)
+conformed (a ∷ xs) [] = Ok (map from_one (a ∷ xs))
+conformed (a ∷ xs) (b ∷ ys) = arrays (a ∷ xs) (b ∷ ys)
 
 -- Two scalars.
 abbrev pub scalars : List Dim → List Dim → Result (List Dim) Rule
@@ -117,8 +117,8 @@ abbrev pub is_concatenation : Operator → Bool
 is_concatenation Concatenate = true
 is_concatenation _ = false
 
-abbrev pub shape_under : Operator → List Dim → List Dim → Result (List Dim) Rule
-shape_under op a b = if is_concatenation op then scalars a b else shape_of a b
+abbrev pub dims_under : Operator → List Dim → List Dim → Result (List Dim) Rule
+dims_under op a b = if is_concatenation op then scalars a b else conformed a b
 
 abbrev pub typed : Elem → Result (List Dim) Rule → Result Ty Rule
 typed elem (Ok dims) = Ok (record { elem = elem; dims = dims })
@@ -130,7 +130,7 @@ with_element (Some elem) dims = typed elem dims
 
 abbrev pub type_under : Option Operator → Ty → Ty → Result Ty Rule
 type_under None a b = Err E401
-type_under (Some op) a b = with_element (element_of op a.elem b.elem) (shape_under op a.dims b.dims)
+type_under (Some op) a b = with_element (element_of op a.elem b.elem) (dims_under op a.dims b.dims)
 
 -- The type of an operation, or the least rule that the types of its operands break.
 abbrev pub result_type : Op → Ty → Ty → Result Ty Rule
@@ -143,17 +143,17 @@ TakesMemory (Ok []) = ⊥
 TakesMemory (Ok (dim ∷ dims)) = Unit {0}
 TakesMemory (Err rule) = ⊥
 
-abbrev pub shape_in : Result Ty Rule → Result (List Dim) Rule
-shape_in (Ok ty) = Ok ty.dims
-shape_in (Err rule) = Err rule
+abbrev pub dims_in : Result Ty Rule → Result (List Dim) Rule
+dims_in (Ok ty) = Ok ty.dims
+dims_in (Err rule) = Err rule
 
 -- What was answered is what there is. Want of memory comes for arrays alone.
-abbrev pub Shapes : Result (List Dim) TypeFault → Result (List Dim) Rule → Type 0
-Shapes (Ok dims) there = there ≡ Ok dims
-Shapes (Err (Broken rule)) there = there ≡ Err rule
-Shapes (Err Memory) there = TakesMemory there
+abbrev pub GivesDims : Result (List Dim) TypeFault → Result (List Dim) Rule → Type 0
+GivesDims (Ok dims) there = there ≡ Ok dims
+GivesDims (Err (Broken rule)) there = there ≡ Err rule
+GivesDims (Err Memory) there = TakesMemory there
 
 abbrev pub Unifies : Result Ty TypeFault → Result Ty Rule → Type 0
 Unifies (Ok ty) there = there ≡ Ok ty
 Unifies (Err (Broken rule)) there = there ≡ Err rule
-Unifies (Err Memory) there = TakesMemory (shape_in there)
+Unifies (Err Memory) there = TakesMemory (dims_in there)

@@ -1,7 +1,7 @@
 -- Scalar values, and what an operation on values gives (ISO/IEC 1539-1:2018, 7.1 and 7.4).
 use Rattle.std.specs.Prelude.{◌≡◌, ℕ, ℤ, pos, negsuc, ◌==◌, Bool, true, not, ◌&&◌, ◌||◌, if◌then◌else◌, int_le, nat_le, length, List, [], ◌∷◌, Result, Ok, Err}
-use Rattle.type_rules.specs.declared.trap.Trap.{Trap}
-use Rattle.type_rules.specs.declared.trap.Trap.TheVariants.{IntegerOverflow}
+use Rattle.lf_base.specs.declared.trap.Trap.{Trap}
+use Rattle.lf_base.specs.declared.trap.Trap.TheVariants.{IntegerOverflow}
 use Rattle.type_rules.specs.declared.constant.Const.{Const}
 use Rattle.type_rules.specs.declared.constant.Const.TheVariants.{IntConst, LogConst, CharConst}
 
@@ -12,13 +12,13 @@ pub data Scalar : Type 0 where
   Characters : (bytes : List ℕ) → Scalar
 
 -- An operation gives a value or ends by a trap, where it has a rule for its operands.
-pub data Outcome (A : Type 0) : Type 0 where
-  Gives : (value : A) → Outcome A
-  Traps : (trap : Trap) → Outcome A
-  NoRule : Outcome A
+pub data Evaluation (A : Type 0) : Type 0 where
+  Gives : (value : A) → Evaluation A
+  Traps : (trap : Trap) → Evaluation A
+  NoRule : Evaluation A
 
 -- Goes on with the value.
-abbrev pub and_then : {A B : Type 0} → Outcome A → (A → Outcome B) → Outcome B
+abbrev pub and_then : {A B : Type 0} → Evaluation A → (A → Evaluation B) → Evaluation B
 and_then (Gives value) go = go value
 and_then (Traps trap) go = Traps trap
 and_then NoRule go = NoRule
@@ -38,7 +38,7 @@ abbrev pub Exact : Type 0
 Exact = Result ℤ Trap
 
 -- The exact result as an integer of this kind.
-abbrev pub fitted : ℕ → Exact → Outcome Scalar
+abbrev pub fitted : ℕ → Exact → Evaluation Scalar
 fitted kind (Ok z) = if is_in_kind kind z then Gives (Integer kind z) else Traps IntegerOverflow
 fitted kind (Err trap) = Traps trap
 

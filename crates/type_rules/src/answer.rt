@@ -4,8 +4,7 @@ ghost use Rattle.type_rules.specs.Values.{fitted, is_in_kind, greatest, least, G
 ghost use Rattle.type_rules.specs.Folds.{Folds, rule_of};
 
 use crate::constant::{Const, TypeFault};
-use crate::trap::Trap;
-use lf_base::Rule;
+use lf_base::{Rule, Trap};
 
 pub type Folded = Result<Const, TypeFault>;
 

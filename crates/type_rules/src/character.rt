@@ -6,27 +6,27 @@ ghost use Rattle.type_rules.specs.Operations.{on_texts, of_text, of_texts, numbe
 ghost use Rattle.type_rules.specs.Folds.{Folds};
 
 use crate::answer::{Folded, fitted, no_rule};
-use crate::code::{Intrinsic, Operator};
+use crate::code::Intrinsic;
 use crate::constant::{Const, TypeFault};
 use crate::scalar::relation;
 use lf_base::Rule;
+use lf_base::operator::Operator;
 use sqlite_items::Items;
 use std::alloc::Global;
 use std::cmp::Ordering;
 
-const BLANK: u8 = b' ';
+pub const BLANK: u8 = b' ';
 
 /// A character value has at most as many bytes.
-const LENGTH_LIMIT: usize = 65_535;
+pub const LENGTH_LIMIT: usize = 65_535;
 
 /// A character value.
-fn text(alloc: Global, bytes: &[u8]) -> Folded
+pub fn text(alloc: Global, bytes: &[u8]) -> Folded
     ensures { Folds result (Gives (Characters bytes.now)) }
 {
-    match Items::from_slice(alloc, bytes) {
-        Ok(bytes) => Ok(Const::CharConst { bytes }),
-        Err(_) => Err(TypeFault::Memory),
-    }
+    Ok(Const::CharConst {
+        bytes: Items::from_slice(alloc, bytes)?,
+    })
 }
 
 /// A number of kind 4.
@@ -83,15 +83,11 @@ fn concatenated(alloc: Global, a: &[u8], b: &[u8]) -> Folded
 fn joined(alloc: Global, a: &[u8], b: &[u8]) -> Folded
     ensures { Folds result (Gives (Characters (a.now ++ b.now))) }
 {
-    let Ok(mut bytes) = Vec::from_slice(alloc, a) else {
-        return Err(TypeFault::Memory);
-    };
-    match bytes.extend_from_slice(b) {
-        Ok(()) => Ok(Const::CharConst {
-            bytes: Items::from_vec(bytes),
-        }),
-        Err(_) => Err(TypeFault::Memory),
-    }
+    let mut bytes = Vec::from_slice(alloc, a)?;
+    bytes.extend_from_slice(b)?;
+    Ok(Const::CharConst {
+        bytes: Items::from_vec(bytes),
+    })
 }
 
 /// How many bytes are left without the blanks at the end.

@@ -1,10 +1,10 @@
-//! The codes of operators and intrinsic functions, and what they stand for.
+//! The codes of the intrinsic functions, and what they stand for.
 ghost use Rattle.std.specs.Prelude.{◌≡◌};
-ghost use Rattle.type_rules.specs.Codes.{operator_of, intrinsic_of};
+ghost use Rattle.type_rules.specs.Codes.{code_of, intrinsic_of};
 
 pub use lf_base::operator::{
-    ADD, AND, CONCATENATE, DIVIDE, EQ, EQV, GE, GT, LE, LT, MULTIPLY, NE, NEQV, NOT, OR, POWER,
-    SUBTRACT,
+    ADD, AND, CONCATENATE, DIVIDE, EQ, EQV, GE, GT, LE, LT, MULTIPLY, NE, NEQV, NOT, OR, Operator,
+    POWER, SUBTRACT,
 };
 
 /// `abs`
@@ -46,119 +46,102 @@ pub const ANY: u8 = 18;
 /// `all`
 pub const ALL: u8 = 19;
 
-/// An operator (ISO/IEC 1539-1:2018, 10.1.5).
-#[derive(Clone, Copy, Debug, PartialEq, Eq)]
-pub enum Operator {
-    /// `+`
-    Add,
-    /// `-`
-    Subtract,
-    /// `*`
-    Multiply,
-    /// `/`
-    Divide,
-    /// `**`
-    Power,
-    /// `//`
-    Concatenate,
-    /// `==`
-    Eq,
-    /// `/=`
-    Ne,
-    /// `<`
-    Lt,
-    /// `<=`
-    Le,
-    /// `>`
-    Gt,
-    /// `>=`
-    Ge,
-    /// `.and.`
-    And,
-    /// `.or.`
-    Or,
-    /// `.eqv.`
-    Eqv,
-    /// `.neqv.`
-    Neqv,
-    /// `.not.`
-    Not,
-}
-
 /// An intrinsic function (ISO/IEC 1539-1:2018, 16.9).
 #[derive(Clone, Copy, Debug, PartialEq, Eq)]
 pub enum Intrinsic {
+    /// `abs`
     Abs,
+    /// `mod`
     Mod,
+    /// `modulo`
     Modulo,
+    /// `min`
     Min,
+    /// `max`
     Max,
+    /// `sign`
     Sign,
+    /// `iachar`
     Iachar,
+    /// `achar`
     Achar,
+    /// `len`
     Len,
+    /// `len_trim`
     LenTrim,
+    /// `trim`
     Trim,
+    /// `index`
     Index,
+    /// `sum`
     Sum,
+    /// `product`
     Product,
+    /// `maxval`
     Maxval,
+    /// `minval`
     Minval,
+    /// `count`
     Count,
+    /// `any`
     Any,
+    /// `all`
     All,
 }
 
-/// The operator of a code, if it is one.
-pub fn operator_at(code: u8) -> Option<Operator>
-    ensures { result ≡ operator_of code }
-{
-    match code {
-        ADD => Some(Operator::Add),
-        SUBTRACT => Some(Operator::Subtract),
-        MULTIPLY => Some(Operator::Multiply),
-        DIVIDE => Some(Operator::Divide),
-        POWER => Some(Operator::Power),
-        CONCATENATE => Some(Operator::Concatenate),
-        EQ => Some(Operator::Eq),
-        NE => Some(Operator::Ne),
-        LT => Some(Operator::Lt),
-        LE => Some(Operator::Le),
-        GT => Some(Operator::Gt),
-        GE => Some(Operator::Ge),
-        AND => Some(Operator::And),
-        OR => Some(Operator::Or),
-        EQV => Some(Operator::Eqv),
-        NEQV => Some(Operator::Neqv),
-        NOT => Some(Operator::Not),
-        _ => None,
+impl Intrinsic {
+    /// The intrinsic function of a code, if it is one.
+    pub fn at(code: u8) -> Option<Intrinsic>
+        ensures { result ≡ intrinsic_of code }
+    {
+        match code {
+            ABS => Some(Intrinsic::Abs),
+            MOD => Some(Intrinsic::Mod),
+            MODULO => Some(Intrinsic::Modulo),
+            MIN => Some(Intrinsic::Min),
+            MAX => Some(Intrinsic::Max),
+            SIGN => Some(Intrinsic::Sign),
+            IACHAR => Some(Intrinsic::Iachar),
+            ACHAR => Some(Intrinsic::Achar),
+            LEN => Some(Intrinsic::Len),
+            LEN_TRIM => Some(Intrinsic::LenTrim),
+            TRIM => Some(Intrinsic::Trim),
+            INDEX => Some(Intrinsic::Index),
+            SUM => Some(Intrinsic::Sum),
+            PRODUCT => Some(Intrinsic::Product),
+            MAXVAL => Some(Intrinsic::Maxval),
+            MINVAL => Some(Intrinsic::Minval),
+            COUNT => Some(Intrinsic::Count),
+            ANY => Some(Intrinsic::Any),
+            ALL => Some(Intrinsic::All),
+            _ => None,
+        }
     }
-}
 
-/// The intrinsic function of a code, if it is one.
-pub fn intrinsic_at(code: u8) -> Option<Intrinsic>
-    ensures { result ≡ intrinsic_of code }
-{
-    match code {
-        ABS => Some(Intrinsic::Abs),
-        MOD => Some(Intrinsic::Mod),
-        MODULO => Some(Intrinsic::Modulo),
-        MIN => Some(Intrinsic::Min),
-        MAX => Some(Intrinsic::Max),
-        SIGN => Some(Intrinsic::Sign),
-        IACHAR => Some(Intrinsic::Iachar),
-        ACHAR => Some(Intrinsic::Achar),
-        LEN => Some(Intrinsic::Len),
-        LEN_TRIM => Some(Intrinsic::LenTrim),
-        TRIM => Some(Intrinsic::Trim),
-        INDEX => Some(Intrinsic::Index),
-        SUM => Some(Intrinsic::Sum),
-        PRODUCT => Some(Intrinsic::Product),
-        MAXVAL => Some(Intrinsic::Maxval),
-        MINVAL => Some(Intrinsic::Minval),
-        COUNT => Some(Intrinsic::Count),
-        ANY => Some(Intrinsic::Any),
-        ALL => Some(Intrinsic::All),
-        _ => None,
+    /// The code of the intrinsic function.
+    pub fn code(&self) -> u8
+        ensures { result ≡ code_of self.now }
+    {
+        match self {
+            Intrinsic::Abs => ABS,
+            Intrinsic::Mod => MOD,
+            Intrinsic::Modulo => MODULO,
+            Intrinsic::Min => MIN,
+            Intrinsic::Max => MAX,
+            Intrinsic::Sign => SIGN,
+            Intrinsic::Iachar => IACHAR,
+            Intrinsic::Achar => ACHAR,
+            Intrinsic::Len => LEN,
+            Intrinsic::LenTrim => LEN_TRIM,
+            Intrinsic::Trim => TRIM,
+            Intrinsic::Index => INDEX,
+            Intrinsic::Sum => SUM,
+            Intrinsic::Product => PRODUCT,
+            Intrinsic::Maxval => MAXVAL,
+            Intrinsic::Minval => MINVAL,
+            Intrinsic::Count => COUNT,
+            Intrinsic::Any => ANY,
+            Intrinsic::All => ALL,
+        }
     }
 }

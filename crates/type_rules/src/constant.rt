@@ -1,5 +1,9 @@
+ghost use Rattle.std.specs.Prelude.{◌≡◌};
+ghost use Rattle.type_rules.specs.declared.constant.TypeFault.TheVariants as fault;
+
 use lf_base::Rule;
 use sqlite_items::Items;
+use std::alloc::{AllocError, AllocFailed};
 
 /// A constant of a scalar type.
 #[derive(Debug, Drop)]
@@ -27,4 +31,20 @@ pub enum Op {
 pub enum TypeFault {
     Rule(Rule),
     Memory,
+}
+
+impl From<AllocError> for TypeFault {
+    ghost from_gives = { λ _ given. given ≡ fault.Memory };
+
+    fn from(_refused: AllocError) -> TypeFault {
+        TypeFault::Memory
+    }
+}
+
+impl<T: Drop> From<AllocFailed<T>> for TypeFault {
+    ghost from_gives = { λ _ given. given ≡ fault.Memory };
+
+    fn from(_refused: AllocFailed<T>) -> TypeFault {
+        TypeFault::Memory
+    }
 }

@@ -6,9 +6,10 @@ ghost use Rattle.type_rules.specs.Operations.{operation, unary, binary, intrinsi
 ghost use Rattle.type_rules.specs.Folds.{Folds};
 
 use crate::answer::{Folded, fitted, no_rule};
-use crate::code::{Intrinsic, Operator, intrinsic_at, operator_at};
+use crate::code::Intrinsic;
 use crate::constant::{Const, Op, TypeFault};
 use crate::{character, integer, scalar};
+use lf_base::operator::Operator;
 use std::alloc::Global;
 
 /// The value of an operation on constants. It answers E416 exactly where the operation traps as
@@ -29,15 +30,15 @@ fn folded(alloc: Global, op: Op, args: &[Const]) -> Folded
     ensures { Folds result (operation op (map scalar_of args.now)) }
 {
     match op {
-        Op::Unary(code) => match (operator_at(code), args) {
+        Op::Unary(code) => match (Operator::at(code), args) {
             (Some(op), [a]) => unary(op, a),
             _ => no_rule(),
         },
-        Op::Binary(code) => match (operator_at(code), args) {
+        Op::Binary(code) => match (Operator::at(code), args) {
             (Some(op), [a, b]) => binary(alloc, op, a, b),
             _ => no_rule(),
         },
-        Op::Intrinsic(code) => match intrinsic_at(code) {
+        Op::Intrinsic(code) => match Intrinsic::at(code) {
             Some(which) => intrinsic(alloc, which, args),
             None => no_rule(),
         },

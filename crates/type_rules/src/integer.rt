@@ -4,7 +4,7 @@ ghost use Rattle.std.specs.Int.{int_min, int_max};
 ghost use Rattle.type_rules.specs.Integers.{quotient, remainder, modulo, product_of, power, magnitude, sign};
 ghost use Rattle.type_rules.specs.Powers.{IsProduct, FitsAlike};
 
-use crate::trap::Trap;
+use lf_base::Trap;
 use std::cmp::Ordering;
 
 /// The order of two integers.
@@ -99,29 +99,51 @@ pub fn greater(a: i64, b: i64) -> i64
     if b < a { a } else { b }
 }
 
+/// A product of many factors.
+#[derive(Clone, Copy)]
+struct Multiplied {
+    /// The product, if 64 bits hold it.
+    held: Option<i64>,
+    /// How many multiplications it took.
+    multiplications: u64,
+}
+
 /// The product of `count` factors, if 64 bits hold it. It multiplies at most 64 times.
-fn product_of(factor: i64, count: u64) -> Option<i64>
-    ensures { IsProduct result (product_of factor count) }
+fn product_of(factor: i64, count: u64) -> Multiplied
+    ensures held { IsProduct result.held (product_of factor count) }
+    ensures short { result.multiplications ≤ 64 }
 {
     if -1 <= factor && factor <= 1 {
-        return Some(unit_product(factor, count));
+        return Multiplied {
+            held: Some(unit_product(factor, count)),
+            multiplications: 0,
+        };
     }
     greater_product(factor, count)
 }
 
 /// The product of `count` factors that are not -1, 0 or 1, if 64 bits hold it.
-fn greater_product(factor: i64, count: u64) -> Option<i64>
+fn greater_product(factor: i64, count: u64) -> Multiplied
     requires { 2 ≤ unsigned_abs factor }
-    ensures { IsProduct result (product_of factor count) }
+    ensures held { IsProduct result.held (product_of factor count) }
+    ensures short { result.multiplications ≤ 64 }
 {
     let mut so_far: i64 = 1;
     for i in 0..count {
         match times(so_far, factor) {
             Some(next) => so_far = next,
-            None => return None,
+            None => {
+                return Multiplied {
+                    held: None,
+                    multiplications: i + 1,
+                };
+            }
         }
     }
-    Some(so_far)
+    Multiplied {
+        held: Some(so_far),
+        multiplications: count,
+    }
 }
 
 /// The product of `count` factors that are -1, 0 or 1.
@@ -165,9 +187,9 @@ pub fn power(a: i64, b: i64) -> Result<i128, Trap>
 {
     let product = product_of(a, b.unsigned_abs());
     if b < 0 {
-        return inverse(product);
+        return inverse(product.held);
     }
-    match product {
+    match product.held {
         Some(product) => Ok(i128::from(product)),
         None => Err(Trap::IntegerOverflow),
     }

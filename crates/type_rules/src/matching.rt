@@ -85,3 +85,23 @@ fn first_match(specifics: &[Vec<Ty>], args: &[Ty]) -> Option<usize>
     }
     None
 }
+
+/// The same as `resolve_generic`, over lists that are borrowed. It takes no memory.
+pub fn resolve_borrowed(specifics: &[&[Ty]], args: &[Ty]) -> Option<usize>
+    ensures first { result ≡ match_from 0 (map (λ s. s.now) specifics.now) args.now }
+    // the one that matches, or none
+    ensures only { ArePairwiseDistinguishable (map (λ s. s.now) specifics.now) → Resolves (map (λ s. s.now) specifics.now) args.now result }
+{
+    first_borrowed(specifics, args)
+}
+
+fn first_borrowed(specifics: &[&[Ty]], args: &[Ty]) -> Option<usize>
+    ensures { result ≡ match_from 0 (map (λ s. s.now) specifics.now) args.now }
+{
+    for i in 0..specifics.len() {
+        if matches(specifics[i], args) {
+            return Some(i);
+        }
+    }
+    None
+}

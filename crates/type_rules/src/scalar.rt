@@ -4,8 +4,9 @@ ghost use Rattle.type_rules.specs.Operations.{relation, on_integers, on_logicals
 ghost use Rattle.type_rules.specs.Folds.{Folds};
 
 use crate::answer::{Folded, fitted, no_rule, truth};
-use crate::code::{Intrinsic, Operator};
+use crate::code::Intrinsic;
 use crate::integer;
+use lf_base::operator::Operator;
 use std::cmp::Ordering;
 
 /// A relational operator, by the order of its operands.

@@ -1,15 +1,15 @@
 //! The type of an operation.
 ghost use Rattle.std.specs.Prelude.{◌≡◌, ◌+◌, map, max, min};
-ghost use Rattle.type_rules.specs.Types.{element_of, of_integers, of_relation, arrays, type_under, of_logicals, of_characters, joined_length, from_one, joined_dim, joined_dims, known_apart, extents_apart, shape_of, scalars, shape_under, result_type, Shapes, Unifies};
+ghost use Rattle.type_rules.specs.Types.{element_of, of_integers, of_relation, arrays, type_under, of_logicals, of_characters, joined_length, from_one, joined_dim, joined_dims, known_apart, extents_apart, conformed, scalars, dims_under, result_type, GivesDims, Unifies};
 
-use crate::code::{Operator, operator_at};
 use crate::constant::{Op, TypeFault};
 use crate::ty::{Dim, Elem, Len, Ty};
 use lf_base::Rule;
+use lf_base::operator::Operator;
 use sqlite_items::Items;
 use std::alloc::Global;
 
-type Dims = Result<Items<Dim>, TypeFault>;
+pub type Dims = Result<Items<Dim>, TypeFault>;
 
 /// The type of a binary operation. It answers E401 exactly where no type comes of the types of the
 /// operands, else E404 exactly where both are arrays of different rank, or where `//` has an array,
@@ -19,7 +19,7 @@ pub fn unify(alloc: Global, op: Op, a: &Ty, b: &Ty) -> Result<Ty, TypeFault>
     ensures { Unifies result (result_type op a.now b.now) }
 {
     match op {
-        Op::Binary(code) => match operator_at(code) {
+        Op::Binary(code) => match Operator::at(code) {
             Some(op) => type_under(alloc, op, a, b),
             None => Err(TypeFault::Rule(Rule::E401)),
         },
@@ -31,16 +31,16 @@ fn type_under(alloc: Global, op: Operator, a: &Ty, b: &Ty) -> Result<Ty, TypeFau
     ensures { Unifies result (type_under (Some op) a.now b.now) }
 {
     match element_of(op, a.elem, b.elem) {
-        Some(elem) => match shape_under(alloc, op, a.dims.as_slice(), b.dims.as_slice()) {
-            Ok(dims) => Ok(Ty { elem, dims }),
-            Err(fault) => Err(fault),
-        },
+        Some(elem) => Ok(Ty {
+            elem,
+            dims: dims_under(alloc, op, a.dims.as_slice(), b.dims.as_slice())?,
+        }),
         None => Err(TypeFault::Rule(Rule::E401)),
     }
 }
 
 /// The element type that an operator gives.
-fn element_of(op: Operator, a: Elem, b: Elem) -> Option<Elem>
+pub fn element_of(op: Operator, a: Elem, b: Elem) -> Option<Elem>
     ensures { result ≡ element_of op a b }
 {
     match (a, b) {
@@ -118,17 +118,17 @@ fn sum_of_lengths(m: u32, n: u32) -> u32
     if n <= u32::MAX - m { m + n } else { u32::MAX }
 }
 
-fn shape_under(alloc: Global, op: Operator, a: &[Dim], b: &[Dim]) -> Dims
-    ensures { Shapes result (shape_under op a.now b.now) }
+fn dims_under(alloc: Global, op: Operator, a: &[Dim], b: &[Dim]) -> Dims
+    ensures { GivesDims result (dims_under op a.now b.now) }
 {
     match op {
         Operator::Concatenate => scalars(alloc, a, b),
-        _ => shape_of(alloc, a, b),
+        _ => conformed(alloc, a, b),
     }
 }
 
 fn scalars(alloc: Global, a: &[Dim], b: &[Dim]) -> Dims
-    ensures { Shapes result (scalars a.now b.now) }
+    ensures { GivesDims result (scalars a.now b.now) }
 {
     match (a, b) {
         ([], []) => Ok(Items::new(alloc)),
@@ -136,8 +136,8 @@ fn scalars(alloc: Global, a: &[Dim], b: &[Dim]) -> Dims
     }
 }
 
-fn shape_of(alloc: Global, a: &[Dim], b: &[Dim]) -> Dims
-    ensures { Shapes result (shape_of a.now b.now) }
+fn conformed(alloc: Global, a: &[Dim], b: &[Dim]) -> Dims
+    ensures { GivesDims result (conformed a.now b.now) }
 {
     match (a, b) {
         ([], _) => from_one_each(alloc, b),
@@ -148,7 +148,7 @@ fn shape_of(alloc: Global, a: &[Dim], b: &[Dim]) -> Dims
 
 /// The shape of an operation on two arrays.
 fn arrays(alloc: Global, a: &[Dim], b: &[Dim]) -> Dims
-    ensures { Shapes result (arrays a.now b.now) }
+    ensures { GivesDims result (arrays a.now b.now) }
 {
     if a.len() != b.len() {
         return Err(TypeFault::Rule(Rule::E404));
@@ -159,14 +159,12 @@ fn arrays(alloc: Global, a: &[Dim], b: &[Dim]) -> Dims
     joined_dims(alloc, a, b)
 }
 
-fn from_one_each(alloc: Global, dims: &[Dim]) -> Dims
-    ensures { Shapes result (Ok (map from_one dims.now)) }
+pub fn from_one_each(alloc: Global, dims: &[Dim]) -> Dims
+    ensures { GivesDims result (Ok (map from_one dims.now)) }
 {
     let mut all = Items::new(alloc);
     for dim in dims {
-        if all.push(from_one(*dim)).is_err() {
-            return Err(TypeFault::Memory);
-        }
+        all.push(from_one(*dim))?;
     }
     Ok(all)
 }
@@ -180,17 +178,15 @@ fn from_one(dim: Dim) -> Dim
     }
 }
 
-fn joined_dims(alloc: Global, a: &[Dim], b: &[Dim]) -> Dims
-    ensures { Shapes result (Ok (joined_dims a.now b.now)) }
+pub fn joined_dims(alloc: Global, a: &[Dim], b: &[Dim]) -> Dims
+    ensures { GivesDims result (Ok (joined_dims a.now b.now)) }
 {
     let mut all = Items::new(alloc);
     let mut others = b;
     for dim in a {
         match others {
             [other, more @ ..] => {
-                if all.push(joined_dim(*dim, *other)).is_err() {
-                    return Err(TypeFault::Memory);
-                }
+                all.push(joined_dim(*dim, *other))?;
                 others = more;
             }
             [] => return Ok(all),
@@ -209,7 +205,7 @@ fn joined_dim(a: Dim, b: Dim) -> Dim
 }
 
 /// Whether two extents are known and differ.
-fn extents_apart(a: &[Dim], b: &[Dim]) -> bool
+pub fn extents_apart(a: &[Dim], b: &[Dim]) -> bool
     ensures { result ≡ extents_apart a.now b.now }
 {
     let mut others = b;

@@ -1,5 +1,5 @@
 use Rattle.std.proofs.Common.{arith, drop}
-use Rattle.type_rules.proofs.Shapes.{apart_end}
+use Rattle.type_rules.proofs.Dims.{apart_end}
 use Rattle.type_rules.proofs.unifying.extents_apart.Goals as goal
 
 pub returns-in-empty : goal.returns-in-empty

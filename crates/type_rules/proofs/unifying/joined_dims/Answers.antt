@@ -1,5 +1,5 @@
 use Rattle.std.proofs.Common.{ap, arith, drop, Ok}
-use Rattle.type_rules.proofs.Shapes.{joined_end}
+use Rattle.type_rules.proofs.Dims.{joined_end}
 use Rattle.type_rules.proofs.unifying.joined_dims.Goals as goal
 
 pub returns-in-empty : goal.returns-in-empty

@@ -1,5 +1,7 @@
+pub mod BulkLemmas
 pub mod ChangeLemmas
 pub mod ClearLemmas
+pub mod EachLemmas
 pub mod EntryLemmas
 pub mod LinkLemmas
 pub mod NameLemmas

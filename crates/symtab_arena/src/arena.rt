@@ -7,11 +7,15 @@ mod declare;
 mod remove;
 
 use crate::entries::{entry, there};
+use crate::key::NameKey;
 use crate::names::Names;
 use crate::table::{Symbol, Table, replace_what};
 use lf_base::{Memory, Name, SymId, TableId};
 use std::alloc::Global;
 use std::marker::Model;
+
+/// The key of an arena that was given none.
+const KNOWN_KEY: [u64; 2] = [0, 0];
 
 /// Tables of symbols by number, for the scopes of a program (ISO/IEC 1539-1:2018, 19.1).
 ///
@@ -20,13 +24,14 @@ use std::marker::Model;
 /// which that owner stands. Names in a table are distinct, and each table keeps the order in which
 /// its names were declared. Numbers are given in rising order and never again.
 ///
-/// Looking a name up and declaring one last take expected constant time in the size of a table. A
-/// removal and a declaration before others take time in the number of the table's symbols. The
-/// hasher is the default of `indexmap` and is not keyed: names that are chosen to collide make
-/// look-ups slower.
+/// Looking a name up and declaring one last take expected constant time in the size of a table:
+/// names are hashed with a key (see `keyed`). A single removal and a declaration before others take
+/// time in the number of the table's symbols, and so does `remove_all` for as many symbols of a
+/// table as it is given.
 #[derive(Drop)]
 pub struct Arena<K> {
     alloc: Global,
+    key: NameKey,
     tables: Vec<Option<Table>>,
     symbols: Vec<Option<Symbol<K>>>,
     live: usize,
@@ -47,19 +52,32 @@ impl<K> Model for Arena<K> {
 }
 
 impl<K> Arena<K> {
-    /// The root table 0, with no symbol. It fails only for want of memory.
+    /// The root table 0, with no symbol. It fails only for want of memory. Its names are hashed with
+    /// a key that everybody knows: where names may be chosen to collide, take `keyed`.
     pub fn new(alloc: Global) -> Result<Arena<K>, Memory>
         ensures { IfOk result (λ a. a ≡ the_root) }
     {
+        Arena::keyed(alloc, KNOWN_KEY)
+    }
+
+    /// The root table 0, as `new`, whose names are hashed with this key. No answer and no order
+    /// depends on the key, only the time that look-ups take. The key must be one that whoever chose
+    /// the names could not choose them by, such as a digest of the whole source.
+    pub fn keyed(alloc: Global, key: [u64; 2]) -> Result<Arena<K>, Memory>
+        ensures { IfOk result (λ a. a ≡ the_root) }
+    {
+        let [first, second] = key;
+        let key = NameKey { first, second };
         let mut tables = Vec::new(alloc);
         let root = Table {
             parent: None,
             owner: None,
-            names: Names::new(alloc),
+            names: Names::new(alloc, key),
         };
         match tables.push(Some(root)) {
             Ok(()) => Ok(Arena {
                 alloc,
+                key,
                 tables,
                 symbols: Vec::new(alloc),
                 live: 0,

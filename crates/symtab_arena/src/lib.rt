@@ -4,6 +4,7 @@
 mod arena;
 mod entries;
 mod fault;
+mod key;
 mod names;
 mod table;
 

@@ -2,8 +2,8 @@ ghost use Rattle.std.specs.Prelude.{◌≡◌, ◌≤◌, ◌+◌, Some, None, O
 ghost use Rattle.std.specs.Option.{option_map};
 ghost use Rattle.symtab_arena.specs.Changes.{standing_for, with_names};
 ghost use Rattle.symtab_arena.specs.Entries.{entry_at, IsThere};
-ghost use Rattle.symtab_arena.specs.Names.{named, without};
-ghost use Rattle.symtab_arena.specs.Tables.{names_at, cleared};
+ghost use Rattle.symtab_arena.specs.Names.{named, without, those_there};
+ghost use Rattle.symtab_arena.specs.Tables.{names_at, cleared, without_each};
 
 use crate::entries::{entry, take};
 use crate::names::Names;
@@ -106,6 +106,33 @@ fn clear<K: Drop>(symbols: &mut Vec<Option<Symbol<K>>>, names: &Names) -> usize
         }
     }
     gone
+}
+
+/// Takes out the symbols at these numbers, and counts those that were there.
+pub(crate) fn clear_each<K: Drop>(symbols: &mut Vec<Option<Symbol<K>>>, gone: &[SymId]) -> usize
+    ensures left { symbols.new.items ≡ without_each gone.now symbols.old.items }
+    ensures count { count_by is_some symbols.new.items + result
+        ≡ count_by is_some symbols.old.items }
+{
+    let mut count = 0;
+    for symbol in gone {
+        count += clear_one(symbols, *symbol);
+    }
+    count
+}
+
+/// Keeps the names of a table whose symbols are there.
+pub(crate) fn keep_there<X>(
+    tables: &mut Vec<Option<Table>>,
+    table: TableId,
+    symbols: &[Option<X>],
+)
+    requires { IsThere tables.old.items table.0 }
+    ensures { tables.new.items ≡ with_names tables.old.items table (those_there symbols.now) }
+{
+    if let Some(there) = &mut tables[table.0 as usize] {
+        there.names.keep_there(symbols);
+    }
 }
 
 /// Takes out a table and the symbols that it lists, and counts those that were there.

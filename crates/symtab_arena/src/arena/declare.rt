@@ -1,6 +1,6 @@
 //! Declarations.
 ghost use Rattle.std.specs.Prelude.{◌≡◌, ◌<◌, ◌≤◌, IfOk, length};
-ghost use Rattle.symtab_arena.specs.Answers.{Admits, Declares, Makes, MayDeclare};
+ghost use Rattle.symtab_arena.specs.Answers.{Admits, Declares, DeclaresEach, Makes, MayDeclare};
 ghost use Rattle.symtab_arena.specs.Changes.{declared_in, owner_declared_in};
 ghost use Rattle.symtab_arena.specs.Scopes.{next_symbol, next_table, HasTable, names_in};
 
@@ -63,6 +63,22 @@ impl<K: Drop> Arena<K> {
     {
         let place = self.size(table);
         self.declare_at(table, place, name, what)
+    }
+
+    /// Declares names in order, as `declare` does with each, up to the first that is refused. The
+    /// answer is that refusal, and the names before it stay declared. It takes expected time in the
+    /// number of the names.
+    pub fn declare_all(&mut self, table: TableId, names: Vec<(Name, K)>) -> Result<(), ArenaFault>
+        requires { HasTable self.old table }
+        ensures { DeclaresEach self.old table names.items self.new result }
+    {
+        for (name, what) in names {
+            match self.declare(table, &name, what) {
+                Ok(_) => {}
+                Err(fault) => return Err(fault),
+            }
+        }
+        Ok(())
     }
 
     /// Declares a name as `declare` does, at a place of the declaration order. Later symbols move up
@@ -171,7 +187,7 @@ impl<K: Drop> Arena<K> {
         self.tables.push_reserved(Some(Table {
             parent: Some(table),
             owner: Some(symbol),
-            names: Names::new(self.alloc),
+            names: Names::new(self.alloc, self.key),
         }));
         self.symbols.push_reserved(Some(Symbol {
             name: own,

@@ -1,5 +1,5 @@
 -- Declarations one behind another.
-use Rattle.std.proofs.Common.{◌≡◌, ℕ, List, ◌∷◌, insert, Ok, Err, is_some, refl, subst, ◌∙◌, inl, inr}
+use Rattle.std.proofs.Common.{◌≡◌, ℕ, List, [], ◌∷◌, length, insert, Ok, Err, is_some, refl, subst, ◌∙◌, inl, inr, arith}
 use Rattle.std.specs.declared.result.Result.{Result}
 use Rattle.lf_base.specs.declared.id.TableId.{TableId}
 use Rattle.symtab_arena.specs.Answers.{MayDeclare, IsRefusal, DeclaresEach}
@@ -26,3 +26,8 @@ module _ {K : Type 0} (a : Scopes K) (t : TableId) where
   pub each_ends : (new : Scopes K) (e : List ℕ × K) (es : List (List ℕ × K)) (fault : ArenaFault)
       → IsRefusal a t e.0 fault → new ≡ a → DeclaresEach a t (e ∷ es) new (Err fault)
   each_ends new e es fault refused same = inr (refused, same)
+
+  -- with none left all are declared
+  pub each_done : (es : List (List ℕ × K)) → length es ≡ 0 → DeclaresEach a t es a (Ok tt)
+  each_done [] none = (refl, refl)
+  each_done (e ∷ es) none = absurd (omega arith)

@@ -1,7 +1,7 @@
-use Rattle.std.proofs.Common.{Ok, Err, refl, sym, subst, length}
+use Rattle.std.proofs.Common.{Ok, Err, sym, subst, ◌∙◌, length}
 use Rattle.symtab_arena.specs.Answers.{DeclaresEach}
 use Rattle.symtab_arena.specs.Scopes.{HasTable, names_in}
-use Rattle.symtab_arena.proofs.EachLemmas.{table_stays, each_more, each_ends}
+use Rattle.symtab_arena.proofs.EachLemmas.{table_stays, each_more, each_ends, each_done}
 use Rattle.symtab_arena.proofs.arena.Arena.declare_all.Goals as goal
 
 pub loop-name-init : goal.loop-name-init
@@ -26,7 +26,13 @@ loop-name-preserved g c =
     }
 
 pub returns-in-Err : goal.returns-in-Err
-returns-in-Err g c = ?
+returns-in-Err g c =
+    let refused = c.in-Err.ensures in
+    c.loop-name.invariant.onward c.declare.new.self (Err c.in-Err.fault)
+    (subst (λ es. DeclaresEach c.loop-name.self c.args.table es c.declare.new.self (Err c.in-Err.fault)) (sym c.in-Some.ensures.steps.0)
+    (each_ends c.loop-name.self c.args.table c.declare.new.self (c.in-Some.name, c.in-Some.what) c.next.new.self.rest.items c.in-Err.fault refused.0 refused.1))
 
 pub returns : goal.returns
-returns g c = ?
+returns g c =
+    c.loop-name.invariant.onward c.loop-name.self (Ok tt)
+    (each_done c.loop-name.self c.args.table c.loop-name.name-iterator.rest.items (sym c.loop-name.name-iterator.rest.ok.0 ∙ c.in-None.ensures.steps.0))

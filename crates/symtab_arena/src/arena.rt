@@ -1,5 +1,7 @@
 ghost use Rattle.std.specs.Prelude.{◌≡◌, ◌↔◌, Some, IfOk, IsTrue, length};
 ghost use Rattle.symtab_arena.specs.Changes.{replaced_in};
+ghost use Rattle.std.specs.Borrow.{sem};
+ghost use Rattle.symtab_arena.specs.Lends.{lends_what};
 ghost use Rattle.symtab_arena.specs.Links.{Linked};
 ghost use Rattle.symtab_arena.specs.Scopes.{the_root, next_table as table_next, HasTable, IsLive, live_count, symbol_in, symbol_in_place, symbol_seen, parent_of, owner_of, owned_by, table_of, name_of, what_of};
 
@@ -9,7 +11,7 @@ mod remove;
 use crate::entries::{entry, there};
 use crate::key::NameKey;
 use crate::names::Names;
-use crate::table::{Symbol, Table, replace_what};
+use crate::table::{Symbol, Table, replace_what, what_there};
 use lf_base::{Memory, Name, SymId, TableId};
 use std::alloc::Global;
 use std::marker::Model;
@@ -203,6 +205,15 @@ impl<K> Arena<K> {
         ensures { result ≡ symbol_in_place self.now table place }
     {
         entry(&self.tables, table.0)?.names.at(place)
+    }
+
+    /// What a live symbol stands for, to be changed.
+    pub fn what_mut(&mut self, symbol: SymId) -> &mut K
+        requires { IsLive self.old symbol }
+        ensures* writes_back { sem 𝓛 (lends_what K.row self.entry symbol result) }
+        ensures value { what_of self.old symbol ≡ Some result.now }
+    {
+        what_there(&mut self.symbols[symbol.0 as usize])
     }
 
     /// Changes what a live symbol stands for, and hands the old one back.

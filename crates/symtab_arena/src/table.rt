@@ -1,7 +1,9 @@
-ghost use Rattle.std.specs.Prelude.{◌≡◌, ◌≤◌, ◌+◌, Some, None, OnOk, OnErr, length, insert, slice_set, vec_capacity, is_some, count_by};
+ghost use Rattle.std.specs.Prelude.{◌≡◌, ◌≤◌, ◌+◌, Some, None, IsSome, OnOk, OnErr, length, insert, slice_set, vec_capacity, is_some, count_by};
 ghost use Rattle.std.specs.Option.{option_map};
 ghost use Rattle.symtab_arena.specs.Changes.{standing_for, with_names};
 ghost use Rattle.symtab_arena.specs.Entries.{entry_at, IsThere};
+ghost use Rattle.std.specs.Borrow.{sem};
+ghost use Rattle.symtab_arena.specs.Lends.{lends_place};
 ghost use Rattle.symtab_arena.specs.Names.{named, without, those_there};
 ghost use Rattle.symtab_arena.specs.Tables.{names_at, cleared, without_each};
 
@@ -62,6 +64,18 @@ pub(crate) fn remove_name(tables: &mut Vec<Option<Table>>, table: TableId, name:
 {
     if let Some(there) = &mut tables[table.0 as usize] {
         there.names.remove(name);
+    }
+}
+
+/// What the symbol at a place stands for, to be changed.
+pub(crate) fn what_there<K>(place: &mut Option<Symbol<K>>) -> &mut K
+    requires { IsSome place.old }
+    ensures* writes_back { sem 𝓛 (lends_place K.row place.entry result) }
+    ensures value { option_map (λ y. y.what) place.old ≡ Some result.now }
+{
+    match place {
+        Some(there) => &mut there.what,
+        None => unreachable!(),
     }
 }
 

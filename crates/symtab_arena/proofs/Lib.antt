@@ -1,6 +1,7 @@
 pub mod BulkLemmas
 pub mod ChangeLemmas
 pub mod ClearLemmas
+pub mod CountLemmas
 pub mod EachLemmas
 pub mod EntryLemmas
 pub mod LinkLemmas

@@ -4,5 +4,6 @@ pub mod Entries
 pub mod Lends
 pub mod Links
 pub mod Names
+pub mod Paths
 pub mod Scopes
 pub mod Tables

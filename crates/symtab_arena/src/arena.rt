@@ -1,9 +1,9 @@
-ghost use Rattle.std.specs.Prelude.{◌≡◌, ◌↔◌, Some, IfOk, IsTrue, length};
+ghost use Rattle.std.specs.Prelude.{◌≡◌, ◌↔◌, ◌<◌, ◌≤◌, Some, IfOk, IsTrue, length};
 ghost use Rattle.symtab_arena.specs.Changes.{replaced_in};
 ghost use Rattle.std.specs.Borrow.{sem};
 ghost use Rattle.symtab_arena.specs.Lends.{lends_what};
 ghost use Rattle.symtab_arena.specs.Links.{Linked};
-ghost use Rattle.symtab_arena.specs.Scopes.{the_root, next_table as table_next, HasTable, IsLive, live_count, symbol_in, symbol_in_place, symbol_seen, parent_of, owner_of, owned_by, table_of, name_of, what_of};
+ghost use Rattle.symtab_arena.specs.Scopes.{the_root, symbol_numbers, names_in, next_table as table_next, HasTable, IsLive, live_count, symbol_in, symbol_in_place, symbol_seen, parent_of, owner_of, owned_by, table_of, name_of, what_of};
 
 mod declare;
 mod remove;
@@ -205,6 +205,35 @@ impl<K> Arena<K> {
         ensures { result ≡ symbol_in_place self.now table place }
     {
         entry(&self.tables, table.0)?.names.at(place)
+    }
+
+    /// How many symbols stand in a table.
+    pub fn table_len(&self, table: TableId) -> usize
+        ensures len { result ≡ length (names_in self.now table) }
+        ensures live { result ≤ live_count self.now }
+        ensures small { result ≤ symbol_numbers }
+    {
+        self.linked();
+        self.size(table)
+    }
+
+    fn size(&self, table: TableId) -> usize
+        ensures { result ≡ length (names_in self.now table) }
+    {
+        match entry(&self.tables, table.0) {
+            Some(there) => there.names.len(),
+            None => 0,
+        }
+    }
+
+    /// The symbol at a place of a table's declaration order, of those below `table_len`.
+    pub fn nth(&self, table: TableId, place: usize) -> SymId
+        requires { place < length (names_in self.now table) }
+        ensures listed { symbol_in_place self.now table place ≡ Some result }
+        ensures stands { table_of self.now result ≡ Some table }
+    {
+        self.linked();
+        self.at(table, place).unwrap()
     }
 
     /// What a live symbol stands for, to be changed.

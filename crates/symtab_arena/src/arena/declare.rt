@@ -5,7 +5,7 @@ ghost use Rattle.symtab_arena.specs.Changes.{declared_in, owner_declared_in};
 ghost use Rattle.symtab_arena.specs.Scopes.{next_symbol, next_table, HasTable, names_in};
 
 use super::Arena;
-use crate::entries::{entry, reserve};
+use crate::entries::reserve;
 use crate::fault::ArenaFault;
 use crate::names::Names;
 use crate::table::{Symbol, Table, insert_name};
@@ -26,16 +26,6 @@ fn key_of(alloc: Global, name: &Name) -> Result<Vec<u8>, Memory>
 }
 
 impl<K> Arena<K> {
-    /// How many symbols stand in a table.
-    fn size(&self, table: TableId) -> usize
-        ensures { result ≡ length (names_in self.now table) }
-    {
-        match entry(&self.tables, table.0) {
-            Some(there) => there.names.len(),
-            None => 0,
-        }
-    }
-
     /// Whether a name may be declared in a table, but for memory.
     fn admit(&self, table: TableId, name: &Name) -> Result<(), ArenaFault>
         ensures { Admits self.now table name.now result }

@@ -1,5 +1,5 @@
 -- What is left of a table once several of its symbols are taken out at once.
-use Rattle.std.proofs.Common.{◌≡◌, ◌≢◌, ℕ, zero, suc, ◌+◌, ◌-◌, ◌≤◌, Bool, true, false, cond, List, [], ◌∷◌, length, filter, slice_set, Option, Some, None, is_some, All, refl, sym, ap, subst, ◌∙◌, inl, inr, arith, true≢false}
+use Rattle.std.proofs.Common.{◌≡◌, ◌≢◌, ℕ, zero, suc, ◌+◌, ◌-◌, ◌<◌, ◌≤◌, Bool, true, false, cond, List, [], ◌∷◌, length, filter, slice_set, slice_index_or, Option, Some, None, is_some, All, refl, sym, ap, subst, ◌∙◌, inl, inr, arith, true≢false}
 use Rattle.std.proofs.lemmas.List.{length-set}
 use Rattle.std.proofs.lemmas.List.Elements.{All-head, All-tail}
 use Rattle.std.specs.List.{count_by}
@@ -41,6 +41,17 @@ module _ {X : Type 0} where
         | inl q ↦ ap (entry_at (slice_set xs s.0 None)) q ∙ entry_at-set_none xs s.0
         | inr d ↦ entry_at-set_other xs s.0 n None d ∙ e
       ])
+
+  pub without_each-gone : (ss : List SymId) (xs : List (Option X)) (k : ℕ) (d : SymId) → k < length ss → entry_at (without_each ss xs) (slice_index_or ss k d).0 ≡ None
+  without_each-gone [] xs k d h = absurd (omega arith)
+  without_each-gone (s ∷ ss) xs zero d h = without_each-nothing ss (slice_set xs s.0 None) s.0 (entry_at-set_none xs s.0)
+  without_each-gone (s ∷ ss) xs (suc k) d h = without_each-gone ss (slice_set xs s.0 None) k d (omega (arith, h))
+
+  pub without_each-other : (ss : List SymId) (xs : List (Option X)) (u : SymId) → All (λ s. u ≢ s) ss → entry_at (without_each ss xs) u.0 ≡ entry_at xs u.0
+  without_each-other [] xs u h = refl
+  without_each-other (s ∷ ss) xs u h =
+      without_each-other ss (slice_set xs s.0 None) u (All-tail (λ s. u ≢ s) s ss h)
+      ∙ entry_at-set_other xs s.0 u.0 None (λ e. All-head (λ s. u ≢ s) s ss h (ap symbol_id e))
 
   -- where each symbol is there, each name stays
   pub those_there-all : (xs : List (Option X)) (names : Names) → AreDistinct names

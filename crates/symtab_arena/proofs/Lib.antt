@@ -1,4 +1,6 @@
+pub mod AlikeLemmas
 pub mod BulkLemmas
+pub mod Callers
 pub mod ChangeLemmas
 pub mod ClearLemmas
 pub mod CountLemmas

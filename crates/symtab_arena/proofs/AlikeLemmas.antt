@@ -1,5 +1,5 @@
 -- What names mean and what paths are in two states that are read alike.
-use Rattle.std.proofs.Common.{◌≡◌, ◌≢◌, ℕ, zero, suc, ◌<◌, ◌≤◌, List, [], ◌∷◌, ◌++◌, length, Option, Some, None, is_some, refl, sym, ap, ◌∙◌, inl, inr, arith}
+use Rattle.std.proofs.Common.{◌≡◌, ℕ, zero, suc, ◌<◌, ◌≤◌, List, [], ◌∷◌, ◌++◌, length, Option, Some, None, is_some, refl, sym, ap, ◌∙◌, inl, inr, arith}
 use Rattle.std.specs.Option.{option_map_or, option_and_then, option_or}
 use Rattle.lf_base.specs.declared.id.SymId.{SymId}
 use Rattle.lf_base.specs.declared.id.TableId.{TableId}
@@ -23,7 +23,7 @@ module _ {K : Type 0} (a b : Scopes K) (name : List ℕ) where
     seen_alike same t = ap (λ n. symbol_within b n t name) same ∙ within_alike (length a.tables) t
 
   module _ (links : Linked a) (parents : (t : TableId) → HasTable a t → parent_of b t ≡ parent_of a t)
-      (symbols : (t : TableId) → symbol_in b t name ≡ symbol_in a t name) (more : length a.tables ≤ length b.tables) where
+      (symbols : (t : TableId) → HasTable a t → symbol_in b t name ≡ symbol_in a t name) (more : length a.tables ≤ length b.tables) where
     on_way : (n : ℕ) (o : Option TableId) → ((p : TableId) → o ≡ Some p → symbol_within b n p name ≡ symbol_within a n p name)
         → option_and_then (λ p. symbol_within b n p name) o ≡ option_and_then (λ p. symbol_within a n p name) o
     on_way n None h = refl
@@ -42,7 +42,7 @@ module _ {K : Type 0} (a b : Scopes K) (name : List ℕ) where
     there_alike : (n : ℕ) (t : TableId) → HasTable a t → symbol_within b n t name ≡ symbol_within a n t name
     there_alike zero t there = refl
     there_alike (suc n) t there =
-        (λ i. option_or (symbols t i) (option_and_then (λ p. symbol_within b n p name) (parents t there i)))
+        (λ i. option_or (symbols t there i) (option_and_then (λ p. symbol_within b n p name) (parents t there i)))
         ∙ ap (option_or (symbol_in a t name)) (on_way n (parent_of a t) (λ p e. there_alike n p (parent_there t p there e)))
 
     -- so where there are more tables, seen of the older ones

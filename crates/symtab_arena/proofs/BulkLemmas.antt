@@ -1,6 +1,5 @@
 -- What is left of a table once several of its symbols are taken out at once.
-use Rattle.std.proofs.Common.{◌≡◌, ◌≢◌, ℕ, zero, suc, ◌+◌, ◌-◌, ◌<◌, ◌≤◌, Bool, true, false, cond, List, [], ◌∷◌, length, filter, slice_set, slice_index_or, Option, Some, None, is_some, All, refl, sym, ap, subst, ◌∙◌, inl, inr, arith, true≢false}
-use Rattle.std.proofs.lemmas.List.{length-set}
+use Rattle.std.proofs.Common.{◌≡◌, ◌≢◌, ℕ, zero, suc, ◌+◌, ◌-◌, ◌<◌, true, cond, List, [], ◌∷◌, length, slice_set, slice_index_or, Option, Some, None, is_some, All, refl, sym, ap, subst, ◌∙◌, inl, inr, arith}
 use Rattle.std.proofs.lemmas.List.Elements.{All-head, All-tail}
 use Rattle.std.specs.List.{count_by}
 use Rattle.std.specs.Option.{option_map, option_map_or}
@@ -10,13 +9,13 @@ use Rattle.symtab_arena.specs.Changes.{renamed, with_names, without_table, remov
 use Rattle.symtab_arena.specs.Entries.{entry_at}
 use Rattle.symtab_arena.specs.Links.{Linked}
 use Rattle.symtab_arena.specs.Names.{Names, named, without, those_there, AreDistinct}
-use Rattle.symtab_arena.specs.Scopes.{Scopes, symbol_id, table_id, table_at, HasTable, symbol_at, live_count, names_in, symbol_in}
+use Rattle.symtab_arena.specs.Scopes.{Scopes, symbol_id, table_at, HasTable, symbol_at, live_count, names_in, symbol_in}
 use Rattle.symtab_arena.specs.Tables.{without_each}
 use Rattle.symtab_arena.specs.declared.table.Table.{Table}
 use Rattle.symtab_arena.specs.declared.table.Symbol.{Symbol}
 use Rattle.symtab_arena.proofs.ChangeLemmas.{entry_at-with_names_same, with_names-keeps}
-use Rattle.symtab_arena.proofs.EntryLemmas.{same_or, none_some, some_from, entry_at_within, entry_at-set_none, entry_at-set_other, set_none-nothing}
-use Rattle.symtab_arena.proofs.LinkLemmas.{same_symbol_or, some_is}
+use Rattle.symtab_arena.proofs.EntryLemmas.{same_or, none_some, some_from, entry_at-set_none, entry_at-set_other, set_none-nothing}
+use Rattle.symtab_arena.proofs.LinkLemmas.{same_symbol_or}
 use Rattle.symtab_arena.proofs.NameLemmas.{same_name_or, named_at, named_past}
 use Rattle.symtab_arena.proofs.RemovalLemmas.{removed_keeps}
 

@@ -1,7 +1,7 @@
 -- For callers: what stands at each number, what names mean and what paths are after each change, and what a walk over a
 -- table tells. `Arena::linked` gives the links that the lemmas ask for.
-use Rattle.std.proofs.Common.{◌≡◌, ◌≢◌, ℕ, ◌<◌, ◌≤◌, List, [], length, slice_index_or, Option, Some, None, is_some, All, refl, sym, ap, subst, ◌∙◌, inl, inr, arith, true≢false}
-use Rattle.std.proofs.lemmas.List.{length-set, length_push}
+use Rattle.std.proofs.Common.{◌≡◌, ◌≢◌, ℕ, ◌<◌, ◌≤◌, List, [], length, slice_index_or, Option, Some, None, is_some, All, refl, sym, ap, subst, ◌∙◌, arith}
+use Rattle.std.proofs.lemmas.List.{length_push}
 use Rattle.std.specs.Option.{option_map, option_map_or, option_and_then}
 use Rattle.lf_base.specs.declared.id.SymId.{SymId}
 use Rattle.lf_base.specs.declared.id.TableId.{TableId}
@@ -10,16 +10,16 @@ use Rattle.symtab_arena.specs.Changes.{declared_in, owner_declared_in, standing_
 use Rattle.symtab_arena.specs.Links.{Linked}
 use Rattle.symtab_arena.specs.Names.{named}
 use Rattle.symtab_arena.specs.Paths.{path_of}
-use Rattle.symtab_arena.specs.Scopes.{Scopes, symbol_id, table_id, next_symbol, next_table, table_at, HasTable, symbol_at, names_in, symbol_in, symbol_in_place, symbol_seen, parent_of, owner_of, table_of, owned_by}
+use Rattle.symtab_arena.specs.Scopes.{Scopes, symbol_id, next_symbol, next_table, table_at, HasTable, symbol_at, names_in, symbol_in, symbol_in_place, symbol_seen, parent_of, owner_of, table_of, owned_by}
 use Rattle.symtab_arena.specs.declared.table.Table.{Table}
 use Rattle.symtab_arena.specs.declared.table.Symbol.{Symbol}
 use Rattle.symtab_arena.proofs.AlikeLemmas.{seen_alike, seen_there_alike, path_alike}
-use Rattle.symtab_arena.proofs.BulkLemmas.{bulk, names_in-bulk, removed_each_is, without_each-gone, without_each-other}
+use Rattle.symtab_arena.proofs.BulkLemmas.{removed_each_is, without_each-gone, without_each-other}
 use Rattle.symtab_arena.proofs.ChangeLemmas.{adds, opens, length_tables_now, other_tables, Linked-declared, Linked-owner_declared, opened_at}
 use Rattle.symtab_arena.proofs.CountLemmas.{place_of_name}
-use Rattle.symtab_arena.proofs.EntryLemmas.{none_some, there_within, entry_at_within, entry_at-set_same, entry_at-set_other}
-use Rattle.symtab_arena.proofs.LinkLemmas.{same_symbol_or}
-use Rattle.symtab_arena.proofs.RemovalLemmas.{after, removed_is, removes, removed_tables}
+use Rattle.symtab_arena.proofs.EntryLemmas.{none_some, there_within, entry_at_within, entry_at-set_none, entry_at-set_same, entry_at-set_other}
+use Rattle.symtab_arena.proofs.LinkLemmas.{Removes}
+use Rattle.symtab_arena.proofs.RemovalLemmas.{after, removed_is, removes, removed_tables, Linked-removed, owns_no_owner}
 use Rattle.symtab_arena.proofs.WayLemmas.{symbol_seen_here, symbol_seen_above}
 
 -- After `declare`, `declare_at`, `declare_owner` and `declare_owner_at`.
@@ -128,7 +128,7 @@ module _ {K : Type 0} (a : Scopes K) (t : TableId) (place : ℕ) (name : List �
 
   pub owner_declared_seen_other : (u : TableId) (n : List ℕ) → HasTable a u → n ≢ name → symbol_seen c u n ≡ symbol_seen a u n
   owner_declared_seen_other u n h d =
-      seen_there_alike a c n links owner_declared_parent (λ v. owner_declared_in_other v n (λ _ q. d q)) more_tables u h
+      seen_there_alike a c n links owner_declared_parent (λ v _. owner_declared_in_other v n (λ _ q. d q)) more_tables u h
 
   -- in the new table a name means what it means around it
   pub owner_declared_seen_inside : (n : List ℕ) → symbol_seen c (next_table a) n ≡ symbol_seen c t n
@@ -155,35 +155,60 @@ module _ {K : Type 0} (a : Scopes K) (s : SymId) (y : Symbol K) (what : K) (was 
   pub replaced_seen : (u : TableId) (n : List ℕ) → symbol_seen (replaced_in a s what) u n ≡ symbol_seen a u n
   replaced_seen u n = refl
 
--- After `remove`.
-module _ {K : Type 0} (a : Scopes K) (s : SymId) (y : Symbol K) (links : Linked a) (was : symbol_at a s ≡ Some y) (plain : y.owned ≡ None) where
-  abbrev left : Scopes K
-  left = after a s y links was
-
-  abbrev is : removed_from a s ≡ left
+-- After `remove` and `remove_owned`.
+module _ {K : Type 0} (a : Scopes K) (s : SymId) (y : Symbol K) (links : Linked a) (was : symbol_at a s ≡ Some y) where
+  abbrev is : removed_from a s ≡ after a s y links was
   is = removed_is a s y links was
 
-  none_owned : (u : TableId) → y.owned ≢ Some u
-  none_owned u q = none_some u (sym plain ∙ q)
+  pub plain_childless : y.owned ≡ None → OwnsNoOwner a s
+  plain_childless = owns_no_owner a s y links was
 
-  childless : (u : SymId) (x : Symbol K) → symbol_at a u ≡ Some x → y.owned ≡ Some x.table → x.owned ≡ None
-  childless u x live q = absurd (none_owned x.table q)
+  pub removed_gone : symbol_at (removed_from a s) s ≡ None
+  removed_gone = ap (λ d. symbol_at d s) is ∙ entry_at-set_none _ s.0
 
-  pub removed_other : (u : SymId) (x : Symbol K) → u ≢ s → symbol_at a u ≡ Some x → symbol_at (removed_from a s) u ≡ Some x
-  removed_other u x d live = ap (λ d. symbol_at d u) is ∙ (removes a s y links was childless).stay u x live d (none_owned x.table)
+  module _ (childless : OwnsNoOwner a s) where
+    takes : Removes a (after a s y links was) s y
+    takes =
+        removes a s y links was
+        (λ u x live e.
+        sym (ap (option_and_then (λ (v : Symbol K). v.owned)) live)
+        ∙ childless u (ap (option_map (λ (v : Symbol K). v.table)) live ∙ sym e ∙ sym (ap (option_and_then (λ (v : Symbol K). v.owned)) was)))
 
-  pub removed_parent : (u : TableId) → parent_of (removed_from a s) u ≡ parent_of a u
-  removed_parent u = ap (λ d. parent_of d u) is ∙ (removes a s y links was childless).parents u (none_owned u)
+    pub removed_linked : Linked (removed_from a s)
+    removed_linked = subst (λ (d : Scopes K). Linked d) (sym is) (Linked-removed a s y links was childless)
 
-  pub removed_in_table : symbol_in (removed_from a s) y.table y.name ≡ None
-  removed_in_table = ap (λ d. symbol_in d y.table y.name) is ∙ (removes a s y links was childless).unnamed
+    -- the other symbols, but for those of the table that goes too
+    pub removed_other : (u : SymId) (x : Symbol K) → u ≢ s → y.owned ≢ Some x.table → symbol_at a u ≡ Some x → symbol_at (removed_from a s) u ≡ Some x
+    removed_other u x d e live = ap (λ c. symbol_at c u) is ∙ takes.stay u x live d e
 
-  pub removed_in_other : (u : TableId) (n : List ℕ) → (u ≡ y.table → n ≡ y.name → ⊥) → symbol_in (removed_from a s) u n ≡ symbol_in a u n
-  removed_in_other u n d = ap (λ d. symbol_in d u n) is ∙ (removes a s y links was childless).named_others u n (none_owned u) d
+    -- the other tables
+    pub removed_table : (u : TableId) → y.owned ≢ Some u → is_some (table_at (removed_from a s) u) ≡ is_some (table_at a u)
+    removed_table u e = ap (λ c. is_some (table_at c u)) is ∙ takes.tables u e
 
-  pub removed_seen_other : (u : TableId) (n : List ℕ) → n ≢ y.name → symbol_seen (removed_from a s) u n ≡ symbol_seen a u n
-  removed_seen_other u n d =
-      seen_alike a (removed_from a s) n removed_parent (λ v. removed_in_other v n (λ _ q. d q)) (removed_tables a s y links was) u
+    pub removed_table_left : (u : TableId) → HasTable (removed_from a s) u → y.owned ≢ Some u
+    removed_table_left u h = takes.gone u (sym (ap (λ c. is_some (table_at c u)) is) ∙ h)
+
+    pub removed_parent : (u : TableId) → y.owned ≢ Some u → parent_of (removed_from a s) u ≡ parent_of a u
+    removed_parent u e = ap (λ c. parent_of c u) is ∙ takes.parents u e
+
+    pub removed_owner : (u : TableId) → y.owned ≢ Some u → owner_of (removed_from a s) u ≡ owner_of a u
+    removed_owner u e = ap (λ c. owner_of c u) is ∙ takes.owners u e
+
+    -- what names mean
+    pub removed_in_table : symbol_in (removed_from a s) y.table y.name ≡ None
+    removed_in_table = ap (λ c. symbol_in c y.table y.name) is ∙ takes.unnamed
+
+    pub removed_in_other : (u : TableId) (n : List ℕ) → y.owned ≢ Some u → (u ≡ y.table → n ≡ y.name → ⊥) → symbol_in (removed_from a s) u n ≡ symbol_in a u n
+    removed_in_other u n e d = ap (λ c. symbol_in c u n) is ∙ takes.named_others u n e d
+
+    pub removed_seen_other : (u : TableId) (n : List ℕ) → HasTable (removed_from a s) u → n ≢ y.name → symbol_seen (removed_from a s) u n ≡ symbol_seen a u n
+    removed_seen_other u n h d =
+        let same = removed_tables a s y links was in
+        sym
+        (seen_there_alike (removed_from a s) a n removed_linked
+        (λ v there. sym (removed_parent v (removed_table_left v there)))
+        (λ v there. sym (removed_in_other v n (removed_table_left v there) (λ _ q. d q)))
+        (omega arith) u h)
 
 -- After `remove_all`.
 module _ {K : Type 0} (a : Scopes K) (t : TableId) (gone : List SymId) (links : Linked a) (there : HasTable a t) (plain : All (IsPlainIn a t) gone) where

@@ -8,7 +8,7 @@ use Rattle.lf_base.specs.declared.id.TableId.{TableId}
 use Rattle.symtab_arena.specs.Entries.{entry_at}
 use Rattle.symtab_arena.specs.Links.{Linked}
 use Rattle.symtab_arena.specs.Names.{Names, named, AreDistinct}
-use Rattle.symtab_arena.specs.Scopes.{Scopes, symbol_numbers, symbol_at, live_count, names_in, symbol_in, symbol_in_place, table_of}
+use Rattle.symtab_arena.specs.Scopes.{Scopes, symbol_numbers, live_count, names_in, symbol_in_place, table_of}
 use Rattle.symtab_arena.specs.Tables.{cleared}
 use Rattle.symtab_arena.specs.declared.table.Symbol.{Symbol}
 use Rattle.symtab_arena.proofs.EntryLemmas.{same_or, none_some, entry_at-set_other, count-set_none}

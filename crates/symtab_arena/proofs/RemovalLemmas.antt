@@ -211,7 +211,7 @@ module _ {K : Type 0} where
     owned_is : owned_by a s ≡ y.owned
     owned_is = ap (option_and_then (λ (v : Symbol K). v.owned)) was
 
-    owns_no_owner : y.owned ≡ None → OwnsNoOwner a s
+    pub owns_no_owner : y.owned ≡ None → OwnsNoOwner a s
     owns_no_owner none u e = by (symbol_at a u) (e ∙ owned_is ∙ none)
       where
         by : (o : Option (Symbol K)) → option_map (λ (v : Symbol K). v.table) o ≡ None → option_and_then (λ (v : Symbol K). v.owned) o ≡ None

@@ -6,6 +6,7 @@ mod entries;
 mod fault;
 mod key;
 mod names;
+mod sample;
 mod table;
 
 pub use arena::Arena;

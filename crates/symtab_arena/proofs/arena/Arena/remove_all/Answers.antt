@@ -1,4 +1,4 @@
-use Rattle.std.proofs.Common.{sym, ap, subst, ◌∙◌, arith, All}
+use Rattle.std.proofs.Common.{sym, ap, subst, ◌∙◌, All}
 use Rattle.symtab_arena.specs.Changes.{with_names, removed_each, IsPlainIn}
 use Rattle.symtab_arena.specs.Names.{those_there}
 use Rattle.symtab_arena.specs.Scopes.{HasTable, names_in}

@@ -136,11 +136,7 @@ pub(crate) fn clear_each<K: Drop>(symbols: &mut Vec<Option<Symbol<K>>>, gone: &[
 }
 
 /// Keeps the names of a table whose symbols are there.
-pub(crate) fn keep_there<X>(
-    tables: &mut Vec<Option<Table>>,
-    table: TableId,
-    symbols: &[Option<X>],
-)
+pub(crate) fn keep_there<X>(tables: &mut Vec<Option<Table>>, table: TableId, symbols: &[Option<X>])
     requires { IsThere tables.old.items table.0 }
     ensures { tables.new.items ≡ with_names tables.old.items table (those_there symbols.now) }
 {

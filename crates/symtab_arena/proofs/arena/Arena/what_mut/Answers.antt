@@ -19,9 +19,12 @@ pub returns : goal.returns
 returns g c =
     let live = subst (λ a. IsLive a c.args.symbol) (sym c.self.view_is) c.requires in
     let at = entry_at_read c.self.inside.symbols.items c.args.symbol.0 c.index_mut.result.now (there_within c.self.inside.symbols.items c.args.symbol.0 live) c.index_mut.ensures.value in (
-      (refl, λ w.
-        ap (λ o. record { tables = c.self.inside.tables.items; symbols = slice_set c.self.inside.symbols.items c.args.symbol.0 (option_map (standing_for w) o) }) (sym at)
-        ∙ ap (λ a. replaced_in a c.args.symbol w) c.self.view_is),
+      (
+        refl,
+        λ w.
+            ap (λ o. record { tables = c.self.inside.tables.items; symbols = slice_set c.self.inside.symbols.items c.args.symbol.0 (option_map (standing_for w) o) }) (sym at)
+            ∙ ap (λ a. replaced_in a c.args.symbol w) c.self.view_is,
+      ),
       record {
         writes_back = tt;
         value = ap (λ a. what_of a c.args.symbol) (sym c.self.view_is) ∙ ap (option_map (λ y. y.what)) at ∙ c.what_there.ensures.value;

@@ -44,10 +44,12 @@ const LARGE: u64 = 1_000_000;
 const ROUNDS: u32 = 20;
 const KEY: [u64; 2] = [0x0123_4567_89ab_cdef, 0xfedc_ba98_7654_3210];
 
-const COLLIDING: usize = 200_000;
-const IN_A_MAP: usize = 20_000;
+const COLLIDING: u64 = 200_000;
+const IN_A_MAP: u64 = 20_000;
 /// Hashes of colliding names are alike in these bits, so that all are looked for at few places.
 const ALIKE: u64 = 0x1fff;
+/// How many beginnings of names are tried.
+const TRIED: u64 = 1_000_000_000;
 
 type Outcome<T> = std::result::Result<T, Memory>;
 
@@ -55,9 +57,9 @@ fn name_of(alloc: Global, number: u64) -> Outcome<Name> {
     Name::new(alloc, &number.to_le_bytes())
 }
 
-/// One of the tables 1 to 10.
-fn table_of(number: u64, tables: u64) -> TableId {
-    let place = if tables == 0 { 0 } else { number % tables };
+/// One of the first tables after the root.
+fn table_of(number: u64, tables: u32) -> TableId {
+    let place = if tables == 0 { 0 } else { number % tables as u64 };
     TableId(place.min(TABLES as u64) as u32 + 1)
 }
 
@@ -71,7 +73,7 @@ fn filled(alloc: Global, names: &[u64], tables: u32) -> Outcome<Arena<u32>> {
     }
     for number in names {
         let name = name_of(alloc, *number)?;
-        let table = table_of(*number, tables as u64);
+        let table = table_of(*number, tables);
         if arena.has_table(table) {
             let _ = arena.declare(table, &name, 0);
         }
@@ -80,15 +82,16 @@ fn filled(alloc: Global, names: &[u64], tables: u32) -> Outcome<Arena<u32>> {
 }
 
 /// How many of these names are found.
-fn found(alloc: Global, arena: &Arena<u32>, names: &[u64], tables: u32) -> Outcome<u64> {
-    let mut count = 0;
+fn found(alloc: Global, arena: &Arena<u32>, names: &[u64]) -> u64 {
+    let mut count: u64 = 0;
     for number in names {
-        let name = name_of(alloc, *number)?;
-        if let Some(_) = arena.lookup_here(table_of(*number, tables as u64), &name) {
-            count += 1;
+        if let Ok(name) = name_of(alloc, *number) {
+            if let Some(_) = arena.lookup_here(table_of(*number, TABLES), &name) {
+                count = count.wrapping_add(1);
+            }
         }
     }
-    Ok(count)
+    count
 }
 
 /// Each second symbol of a table, of those that own no table.
@@ -111,43 +114,49 @@ fn each_second(alloc: Global, arena: &Arena<u32>, table: TableId) -> Outcome<Vec
 }
 
 /// Takes out each second symbol of each table.
-fn thin_out(alloc: Global, arena: &mut Arena<u32>, tables: u32) -> Outcome<()> {
-    for number in 0..tables {
-        let table = TableId(number.saturating_add(1));
-        let gone = each_second(alloc, arena, table)?;
-        if arena.has_table(table) {
-            arena.remove_all(table, &gone);
+fn thin_out(alloc: Global, arena: &mut Arena<u32>) {
+    for number in 1..TABLES + 1 {
+        let table = TableId(number);
+        if let Ok(gone) = each_second(alloc, arena, table) {
+            if arena.has_table(table) {
+                arena.remove_all(table, &gone);
+            }
         }
     }
-    Ok(())
 }
 
 /// So many names of the same length whose hashes without a key are alike in the low bits.
 fn colliding(alloc: Global, count: usize) -> Vec<u64> {
     let mut names = Vec::new(alloc);
-    let mut number: u64 = 0;
-    while names.len() < count {
-        let mut rest = number;
-        let mut prefix = BuildHasherDefault::<FoldHasher>::new().build_hasher();
-        prefix.write_usize(8);
-        let mut bytes: u64 = 0;
-        for place in 0..7u32 {
-            let letter = 0x61 + (rest % 26) as u8;
-            rest /= 26;
-            prefix.write_u8(letter);
-            bytes |= (letter as u64) << (8 * place);
+    for number in 0..TRIED {
+        if names.len() >= count {
+            return names;
         }
-        for letter in 0x61..0x7bu8 {
-            let mut hasher = prefix;
-            hasher.write_u8(letter);
-            let hash = hasher.finish();
-            if (hash ^ hash >> 32) & ALIKE == 0 && names.len() < count {
-                let _ = names.push(bytes | (letter as u64) << 56);
-            }
-        }
-        number = number.wrapping_add(1);
+        add_colliding(&mut names, number);
     }
     names
+}
+
+/// Adds the names with one beginning of seven letters.
+fn add_colliding(names: &mut Vec<u64>, number: u64) {
+    let mut rest = number;
+    let mut prefix = BuildHasherDefault::<FoldHasher>::new().build_hasher();
+    prefix.write_usize(8);
+    let mut bytes: u64 = 0;
+    for _ in 0..7 {
+        let letter = 0x61 + (rest % 26) as u8;
+        rest /= 26;
+        prefix.write_u8(letter);
+        bytes = bytes >> 8 | (letter as u64) << 48;
+    }
+    for letter in 0x61..0x7bu8 {
+        let mut hasher = prefix;
+        hasher.write_u8(letter);
+        let hash = hasher.finish();
+        if (hash ^ hash >> 32) & ALIKE == 0 {
+            let _ = names.push(bytes | (letter as u64) << 56);
+        }
+    }
 }
 
 /// Fills a map whose hashes have no key.
@@ -160,13 +169,6 @@ fn fill_map(alloc: Global, names: &[u64]) {
     }
 }
 
-fn front(names: &[u64], count: usize) -> &[u64] {
-    match names.split_at_checked(count) {
-        Some((front, _)) => front,
-        None => names,
-    }
-}
-
 fn numbers(alloc: Global, count: u64) -> Vec<u64> {
     let mut names = Vec::new(alloc);
     for number in 0..count {
@@ -175,63 +177,68 @@ fn numbers(alloc: Global, count: u64) -> Vec<u64> {
     names
 }
 
-/// The nanoseconds of one of so many.
-fn of_one(elapsed: u128, count: u128) -> u128 {
-    if count == 0 { 0 } else { elapsed / count }
+/// Times an arena of so many names.
+fn time_arena(rt: &HostRuntime, count: u64, rounds: u32) -> Result<()> {
+    let alloc = rt.alloc();
+    let names = numbers(alloc, count);
+    let start = Instant::now(rt)?;
+    for _ in 0..rounds {
+        let _ = filled(alloc, &names, TABLES);
+    }
+    let declared = start.elapsed(rt)?.as_nanos();
+    let Ok(mut arena) = filled(alloc, &names, TABLES) else { return Ok(()) };
+    let start = Instant::now(rt)?;
+    let hits = found(alloc, &arena, &names);
+    let looked = start.elapsed(rt)?.as_nanos();
+    let start = Instant::now(rt)?;
+    thin_out(alloc, &mut arena);
+    let removed = start.elapsed(rt)?.as_nanos();
+    let left = arena.len();
+    println!(rt; "arena {count} {declared} {looked} {removed} {hits} {left}")?;
+    Ok(())
+}
+
+/// Shows the memory before and after an arena is filled.
+fn show_memory(rt: &HostRuntime) -> Result<()> {
+    let names = numbers(rt.alloc(), LARGE);
+    println!(rt; "before {}", fs::read_to_string(rt, "/proc/self/statm")?)?;
+    let arena = filled(rt.alloc(), &names, TABLES);
+    println!(rt; "after {}", fs::read_to_string(rt, "/proc/self/statm")?)?;
+    let _ = arena;
+    Ok(())
+}
+
+/// Times names in one table of an arena.
+fn time_names(rt: &HostRuntime, what: &str, names: &[u64]) -> Result<()> {
+    let start = Instant::now(rt)?;
+    let arena = filled(rt.alloc(), names, 1);
+    let taken = start.elapsed(rt)?.as_nanos();
+    let held = match &arena {
+        Ok(arena) => arena.len(),
+        Err(_) => 0,
+    };
+    println!(rt; "table {what} {taken} {held}")?;
+    Ok(())
+}
+
+/// Times names in a map.
+fn time_map(rt: &HostRuntime, what: &str, names: &[u64]) -> Result<()> {
+    let start = Instant::now(rt)?;
+    fill_map(rt.alloc(), names);
+    let taken = start.elapsed(rt)?.as_nanos();
+    println!(rt; "map {what} {taken}")?;
+    Ok(())
 }
 
 fn main(rt: HostRuntime) -> Result<()> {
     let alloc = rt.alloc();
-    let few = numbers(alloc, SMALL);
-    let many = numbers(alloc, LARGE);
-
-    let start = Instant::now(&rt)?;
-    for _ in 0..ROUNDS {
-        let _ = filled(alloc, &few, TABLES);
-    }
-    println!(rt; "declare small {}", of_one(start.elapsed(&rt)?.as_nanos(), ROUNDS as u128 * SMALL as u128))?;
-    let Ok(mut arena) = filled(alloc, &few, TABLES) else { return Ok(()) };
-    let start = Instant::now(&rt)?;
-    for _ in 0..ROUNDS {
-        let _ = found(alloc, &arena, &few, TABLES);
-    }
-    println!(rt; "look_up small {}", of_one(start.elapsed(&rt)?.as_nanos(), ROUNDS as u128 * SMALL as u128))?;
-    let start = Instant::now(&rt)?;
-    let _ = thin_out(alloc, &mut arena, TABLES);
-    println!(rt; "remove small {}", of_one(start.elapsed(&rt)?.as_nanos(), SMALL as u128 / 2))?;
-    println!(rt; "left small {}", arena.len())?;
-
-    let before = fs::read_to_string(&rt, "/proc/self/statm")?;
-    let start = Instant::now(&rt)?;
-    let Ok(mut arena) = filled(alloc, &many, TABLES) else { return Ok(()) };
-    println!(rt; "declare large {}", of_one(start.elapsed(&rt)?.as_nanos(), LARGE as u128))?;
-    let after = fs::read_to_string(&rt, "/proc/self/statm")?;
-    let start = Instant::now(&rt)?;
-    let hits = found(alloc, &arena, &many, TABLES).unwrap_or(0);
-    println!(rt; "look_up large {}", of_one(start.elapsed(&rt)?.as_nanos(), LARGE as u128))?;
-    println!(rt; "found large {hits}")?;
-    let start = Instant::now(&rt)?;
-    let _ = thin_out(alloc, &mut arena, TABLES);
-    println!(rt; "remove large {}", of_one(start.elapsed(&rt)?.as_nanos(), LARGE as u128 / 2))?;
-    println!(rt; "left large {}", arena.len())?;
-    println!(rt; "before {before}")?;
-    println!(rt; "after {after}")?;
-
-    let alike = colliding(alloc, COLLIDING);
-    let apart = numbers(alloc, COLLIDING as u64);
-    let start = Instant::now(&rt)?;
-    let _ = filled(alloc, &apart, 1);
-    println!(rt; "arena apart {}", of_one(start.elapsed(&rt)?.as_nanos(), COLLIDING as u128))?;
-    let start = Instant::now(&rt)?;
-    let Ok(arena) = filled(alloc, &alike, 1) else { return Ok(()) };
-    println!(rt; "arena alike {}", of_one(start.elapsed(&rt)?.as_nanos(), COLLIDING as u128))?;
-    println!(rt; "left alike {}", arena.len())?;
-    let start = Instant::now(&rt)?;
-    fill_map(alloc, front(&apart, IN_A_MAP));
-    println!(rt; "map apart {}", of_one(start.elapsed(&rt)?.as_nanos(), IN_A_MAP as u128))?;
-    let start = Instant::now(&rt)?;
-    fill_map(alloc, front(&alike, IN_A_MAP));
-    println!(rt; "map alike {}", of_one(start.elapsed(&rt)?.as_nanos(), IN_A_MAP as u128))?;
+    show_memory(&rt)?;
+    time_arena(&rt, SMALL, ROUNDS)?;
+    time_arena(&rt, LARGE, 1)?;
+    time_names(&rt, "apart", &numbers(alloc, COLLIDING))?;
+    time_names(&rt, "alike", &colliding(alloc, COLLIDING as usize))?;
+    time_map(&rt, "apart", &numbers(alloc, IN_A_MAP))?;
+    time_map(&rt, "alike", &colliding(alloc, IN_A_MAP as usize))?;
     Ok(())
 }
 PROGRAM
@@ -253,18 +260,21 @@ if ! rt run > "$copy/out" 2>&1; then
   exit 1
 fi
 awk -v page="$(getconf PAGESIZE 2> /dev/null || echo 4096)" '
-  function ratio(what, limit) {
-    printf "%s: %d ns among 10,000, %d ns among 1,000,000, ratio %.2f (at most %s)\n", what, of[what, "small"], of[what, "large"], of[what, "large"] / of[what, "small"], limit
-  }
   $1 == "before" { before = $3 }
   $1 == "after" { after = $3 }
-  { of[$1, $2] = $3 }
+  $1 == "arena" {
+    n = $2
+    declared[n] = $3 / n / (n == 10000 ? 20 : 1); looked[n] = $4 / n; removed[n] = $5 / (n / 2)
+    if ($6 != n || $7 != n / 2 + 10) { print "symtab: an arena does not hold what it should"; exit 1 }
+  }
+  $1 == "table" || $1 == "map" { taken[$1, $2] = $3; held[$1, $2] = $4 }
+  function ratio(what, of) {
+    printf "%s: %.0f ns among 10,000, %.0f ns among 1,000,000, ratio %.2f (at most 4)\n", what, of[10000], of[1000000], of[1000000] / of[10000]
+  }
   END {
-    if (of["left", "small"] != 5010 || of["left", "large"] != 500010 || of["found", "large"] != 1000000 || of["left", "alike"] != 200001) {
-      print "symtab: the arenas do not hold what they should"; exit 1
-    }
-    ratio("declare", 4); ratio("look_up", 4); ratio("remove", 4)
+    if (held["table", "apart"] != 200001 || held["table", "alike"] < 200001) { print "symtab: a table does not hold what it should"; exit 1 }
+    ratio("a declaration", declared); ratio("a look-up", looked); ratio("a symbol of a removal at once", removed)
     printf "bytes a symbol in all, with a name of 8 bytes: %.0f (at most 250)\n", (after - before) * page / 1000000
-    printf "200,000 names that collide where hashes have no key: %d ns each, others %d ns, ratio %.2f (at most 2)\n", of["arena", "alike"], of["arena", "apart"], of["arena", "alike"] / of["arena", "apart"]
-    printf "the first 20,000 of them in a map with no key: %d ns each, others %d ns, ratio %.1f\n", of["map", "alike"], of["map", "apart"], of["map", "alike"] / of["map", "apart"]
+    printf "200,000 names in a table that collide where hashes have no key: %.0f ns each, others %.0f ns, ratio %.2f (at most 2)\n", taken["table", "alike"] / 200000, taken["table", "apart"] / 200000, taken["table", "alike"] / taken["table", "apart"]
+    printf "the first 20,000 of them in a map whose hashes have no key: ratio %.1f\n", taken["map", "alike"] / taken["map", "apart"]
   }' "$copy/out"

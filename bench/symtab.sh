@@ -1,7 +1,8 @@
 #!/usr/bin/env bash
-# Times declarations in arenas of 10 tables, with 10,000 and with 1,000,000 symbols in one run, and prints their ratio and
-# the memory that a symbol takes beyond its name and what it stands for. The program is made in a temporary copy of the
-# repository. It is no part of the gate.
+# Times declarations, look-ups and removals at once in arenas of 10 tables, with 100,000 and with 1,000,000 symbols in one
+# run, and prints their ratios, which are about 10 where the time of all grows with the square, and the memory that a symbol
+# takes in all. Then it declares 200,000 names in one table that collide in a map whose hashes have no key, beside as many
+# that do not. The program is made in a temporary copy of the repository. It is no part of the gate.
 set -euo pipefail
 for tool in rt git awk mktemp; do
   command -v "$tool" > /dev/null || { echo "symtab: skipped, there is no $tool"; exit 0; }
@@ -16,69 +17,240 @@ cp "$root/HANDLES" "$copy/"
 cp -r "$root/crates/lf_base" "$root/crates/symtab_arena" "$copy/crates/"
 {
   grep -E '^(lf_base|symtab_arena)\b' "$root/crates.txt"
-  echo 'symtab_bench: lf_base symtab_arena anyhow'
+  echo 'symtab_bench: lf_base symtab_arena indexmap anyhow'
 } > "$copy/crates.txt"
 bench=$copy/crates/symtab_bench
 mkdir -p "$bench/src" "$bench/specs" "$bench/proofs"
 touch "$bench/specs/Lib.antt" "$bench/proofs/Lib.antt"
 cat > "$bench/src/main.rt" <<'PROGRAM'
-//! Times declarations.
+//! Times declarations, look-ups and removals.
 #![tactic(auto)]
 
+ghost use Rattle.std.specs.Prelude.{IfOk, All};
+ghost use Rattle.symtab_arena.specs.Changes.{IsPlainIn};
+
 use anyhow::Result;
-use lf_base::{Memory, Name, TableId};
+use indexmap::IndexMap;
+use lf_base::{Memory, Name, SymId, TableId};
 use std::alloc::Global;
 use std::fs;
+use std::hash::{BuildHasher, BuildHasherDefault, FoldHasher, Hasher};
 use std::time::Instant;
 use symtab_arena::Arena;
 
 const TABLES: u32 = 10;
-const SMALL: u32 = 10_000;
-const LARGE: u32 = 1_000_000;
-const ROUNDS: u32 = 20;
+const SMALL: u64 = 100_000;
+const LARGE: u64 = 1_000_000;
+const ROUNDS: u32 = 4;
+const KEY: [u64; 2] = [0x0123_4567_89ab_cdef, 0xfedc_ba98_7654_3210];
 
-/// An arena with so many symbols over its tables, whose names have eight bytes.
-fn filled(alloc: Global, symbols: u32) -> Result<Arena<u32>, Memory> {
-    let mut arena = Arena::new(alloc)?;
-    for number in 0..TABLES {
+const COLLIDING: u64 = 200_000;
+const IN_A_MAP: u64 = 20_000;
+/// Hashes of colliding names are alike in these bits, so that all are looked for at few places.
+const ALIKE: u64 = 0x1fff;
+/// How many beginnings of names are tried.
+const TRIED: u64 = 1_000_000_000;
+
+type Outcome<T> = std::result::Result<T, Memory>;
+
+fn name_of(alloc: Global, number: u64) -> Outcome<Name> {
+    Name::new(alloc, &number.to_le_bytes())
+}
+
+/// One of the first tables after the root.
+fn table_of(number: u64, tables: u32) -> TableId {
+    let place = if tables == 0 { 0 } else { number % tables as u64 };
+    TableId(place.min(TABLES as u64) as u32 + 1)
+}
+
+/// An arena with these names over its tables. Each has eight bytes.
+fn filled(alloc: Global, names: &[u64], tables: u32) -> Outcome<Arena<u32>> {
+    let mut arena = Arena::keyed(alloc, KEY)?;
+    for number in 0..tables {
         let name = Name::new(alloc, &number.to_le_bytes())?;
         arena.linked();
         let _ = arena.declare_owner(TableId(0), &name, number);
     }
-    for number in 0..symbols {
-        let table = TableId(number % TABLES + 1);
-        let name = Name::new(alloc, &u64::from(number).to_le_bytes())?;
+    for number in names {
+        let name = name_of(alloc, *number)?;
+        let table = table_of(*number, tables);
         if arena.has_table(table) {
-            let _ = arena.declare(table, &name, number);
+            let _ = arena.declare(table, &name, 0);
         }
     }
     Ok(arena)
 }
 
-fn main(rt: HostRuntime) -> Result<()> {
-    let alloc = rt.alloc();
-    let before = fs::read_to_string(&rt, "/proc/self/statm")?;
-    let start = Instant::now(&rt)?;
-    for _ in 0..ROUNDS {
-        let _ = filled(alloc, SMALL);
+/// How many of these names are found.
+fn found(alloc: Global, arena: &Arena<u32>, names: &[u64]) -> u64 {
+    let mut count: u64 = 0;
+    for number in names {
+        if let Ok(name) = name_of(alloc, *number) {
+            if let Some(_) = arena.lookup_here(table_of(*number, TABLES), &name) {
+                count = count.wrapping_add(1);
+            }
+        }
     }
-    let small = start.elapsed(&rt)?.as_nanos();
-    let start = Instant::now(&rt)?;
-    let arena = filled(alloc, LARGE);
-    let large = start.elapsed(&rt)?.as_nanos();
-    let after = fs::read_to_string(&rt, "/proc/self/statm")?;
-    let given = match &arena {
-        Ok(arena) => arena.given(),
+    count
+}
+
+/// Each second symbol of a table, of those that own no table.
+fn each_second(alloc: Global, arena: &Arena<u32>, table: TableId) -> Outcome<Vec<SymId>>
+    ensures { IfOk result (λ gone. All (IsPlainIn arena.now table) gone.items) }
+{
+    arena.linked();
+    let mut gone = Vec::new(alloc);
+    for place in 0..arena.table_len(table) / 2 {
+        let symbol = arena.nth(table, 2 * place);
+        match arena.owned(symbol) {
+            None => match gone.push(symbol) {
+                Ok(()) => {}
+                Err(_) => return Err(Memory),
+            },
+            Some(_) => {}
+        }
+    }
+    Ok(gone)
+}
+
+/// Takes out each second symbol of each table.
+fn thin_out(alloc: Global, arena: &mut Arena<u32>) {
+    for number in 1..TABLES + 1 {
+        let table = TableId(number);
+        if let Ok(gone) = each_second(alloc, arena, table) {
+            if arena.has_table(table) {
+                arena.remove_all(table, &gone);
+            }
+        }
+    }
+}
+
+/// So many names of the same length whose hashes without a key are alike in the low bits.
+fn colliding(alloc: Global, count: usize) -> Vec<u64> {
+    let mut names = Vec::new(alloc);
+    for number in 0..TRIED {
+        if names.len() >= count {
+            return names;
+        }
+        add_colliding(&mut names, number);
+    }
+    names
+}
+
+/// Adds the names with one beginning of seven letters.
+fn add_colliding(names: &mut Vec<u64>, number: u64) {
+    let mut rest = number;
+    let mut prefix = BuildHasherDefault::<FoldHasher>::new().build_hasher();
+    prefix.write_usize(8);
+    let mut bytes: u64 = 0;
+    for _ in 0..7 {
+        let letter = 0x61 + (rest % 26) as u8;
+        rest /= 26;
+        prefix.write_u8(letter);
+        bytes = bytes >> 8 | (letter as u64) << 48;
+    }
+    for letter in 0x61..0x7bu8 {
+        let mut hasher = prefix;
+        hasher.write_u8(letter);
+        let hash = hasher.finish();
+        if (hash ^ hash >> 32) & ALIKE == 0 {
+            let _ = names.push(bytes | (letter as u64) << 56);
+        }
+    }
+}
+
+/// Fills a map whose hashes have no key.
+fn fill_map(alloc: Global, names: &[u64]) {
+    let mut map: IndexMap<Vec<u8>, u32> = IndexMap::new(alloc);
+    for number in names {
+        if let Ok(key) = Vec::from_slice(alloc, &number.to_le_bytes()) {
+            let _ = map.insert(key, 0);
+        }
+    }
+}
+
+fn numbers(alloc: Global, count: u64) -> Vec<u64> {
+    let mut names = Vec::new(alloc);
+    for number in 0..count {
+        let _ = names.push(number);
+    }
+    names
+}
+
+/// Times an arena of so many names.
+fn time_arena(rt: &HostRuntime, count: u64, rounds: u32) -> Result<()> {
+    let alloc = rt.alloc();
+    let names = numbers(alloc, count);
+    let start = Instant::now(rt)?;
+    for _ in 0..rounds {
+        let _ = filled(alloc, &names, TABLES);
+    }
+    let declared = start.elapsed(rt)?.as_nanos();
+    let Ok(mut arena) = filled(alloc, &names, TABLES) else { return Ok(()) };
+    let start = Instant::now(rt)?;
+    let hits = found(alloc, &arena, &names);
+    let looked = start.elapsed(rt)?.as_nanos();
+    let start = Instant::now(rt)?;
+    thin_out(alloc, &mut arena);
+    let removed = start.elapsed(rt)?.as_nanos();
+    let left = arena.len();
+    println!(rt; "arena {count} {declared} {looked} {removed} {hits} {left}")?;
+    Ok(())
+}
+
+/// Shows the memory before and after an arena is filled.
+fn show_memory(rt: &HostRuntime) -> Result<()> {
+    let names = numbers(rt.alloc(), LARGE);
+    println!(rt; "before {}", fs::read_to_string(rt, "/proc/self/statm")?)?;
+    let arena = filled(rt.alloc(), &names, TABLES);
+    println!(rt; "after {}", fs::read_to_string(rt, "/proc/self/statm")?)?;
+    let _ = arena;
+    Ok(())
+}
+
+/// Times names in one table of an arena.
+fn time_names(rt: &HostRuntime, what: &str, names: &[u64]) -> Result<()> {
+    let start = Instant::now(rt)?;
+    let arena = filled(rt.alloc(), names, 1);
+    let taken = start.elapsed(rt)?.as_nanos();
+    let held = match &arena {
+        Ok(arena) => arena.len(),
         Err(_) => 0,
     };
-    println!(rt; "given {given}")?;
-    println!(rt; "small {small}")?;
-    println!(rt; "large {large}")?;
-    println!(rt; "before {before}")?;
-    println!(rt; "after {after}")?;
+    println!(rt; "table {what} {taken} {held}")?;
+    Ok(())
+}
+
+/// Times names in a map.
+fn time_map(rt: &HostRuntime, what: &str, names: &[u64]) -> Result<()> {
+    let start = Instant::now(rt)?;
+    fill_map(rt.alloc(), names);
+    let taken = start.elapsed(rt)?.as_nanos();
+    println!(rt; "map {what} {taken}")?;
+    Ok(())
+}
+
+fn main(rt: HostRuntime) -> Result<()> {
+    let alloc = rt.alloc();
+    show_memory(&rt)?;
+    time_arena(&rt, SMALL, ROUNDS)?;
+    time_arena(&rt, LARGE, 1)?;
+    time_names(&rt, "apart", &numbers(alloc, COLLIDING))?;
+    time_names(&rt, "alike", &colliding(alloc, COLLIDING as usize))?;
+    time_map(&rt, "apart", &numbers(alloc, IN_A_MAP))?;
+    time_map(&rt, "alike", &colliding(alloc, IN_A_MAP as usize))?;
     Ok(())
 }
 PROGRAM
+mkdir -p "$bench/proofs/each_second"
+cat > "$bench/proofs/each_second/Invariants.antt" <<'INVARIANTS'
+use Rattle.std.proofs.Common.{All}
+use Rattle.symtab_arena.specs.Changes.{IsPlainIn}
+use Rattle.symtab_bench.proofs.each_second.Given as goal
+
+abbrev pub invariant-loop-place : goal.invariant-loop-place
+invariant-loop-place l = All (IsPlainIn l.arena l.table) l.gone.items
+INVARIANTS
 git -C "$copy" init -q
 
 cd "$bench"
@@ -88,15 +260,21 @@ if ! rt run > "$copy/out" 2>&1; then
   exit 1
 fi
 awk -v page="$(getconf PAGESIZE 2> /dev/null || echo 4096)" '
-  $1 == "given" { given = $2 }
-  $1 == "small" { small = $2 / 200000 }
-  $1 == "large" { large = $2 / 1000000 }
   $1 == "before" { before = $3 }
   $1 == "after" { after = $3 }
+  $1 == "arena" {
+    n = $2
+    declared[n] = $3 / n / (n == 100000 ? 4 : 1); looked[n] = $4 / n; removed[n] = $5 / (n / 2)
+    if ($6 != n || $7 != n / 2 + 10) { print "symtab: an arena does not hold what it should"; exit 1 }
+  }
+  $1 == "table" || $1 == "map" { taken[$1, $2] = $3; held[$1, $2] = $4 }
+  function ratio(what, of) {
+    printf "%s: %.0f ns among 100,000, %.0f ns among 1,000,000, ratio %.2f (at most 4)\n", what, of[100000], of[1000000], of[1000000] / of[100000]
+  }
   END {
-    if (given != 1000010) { print "symtab: the large arena was not filled"; exit 1 }
-    printf "a declaration among 10,000: %.0f ns\n", small
-    printf "a declaration among 1,000,000: %.0f ns\n", large
-    printf "ratio: %.2f (at most 4)\n", large / small
-    printf "bytes a symbol beyond name and payload: %.0f (at most 300)\n", (after - before) * page / 1000000 - 12
+    if (held["table", "apart"] != 200001 || held["table", "alike"] < 200001) { print "symtab: a table does not hold what it should"; exit 1 }
+    ratio("a declaration", declared); ratio("a look-up", looked); ratio("a symbol of a removal at once", removed)
+    printf "bytes a symbol in all, with a name of 8 bytes: %.0f (at most 250)\n", (after - before) * page / 1000000
+    printf "200,000 names in a table that collide where hashes have no key: %.0f ns each, others %.0f ns, ratio %.2f (at most 2)\n", taken["table", "alike"] / 200000, taken["table", "apart"] / 200000, taken["table", "alike"] / taken["table", "apart"]
+    printf "the first 20,000 of them in a map whose hashes have no key: ratio %.1f\n", taken["map", "alike"] / taken["map", "apart"]
   }' "$copy/out"

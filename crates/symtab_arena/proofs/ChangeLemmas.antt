@@ -49,16 +49,16 @@ module _ {K : Type 0} (a : Scopes K) (t : TableId) (place : ℕ) (name : List �
   abbrev owning : Symbol K
   owning = record { name = name; table = t; owned = Some (next_table a); what = what }
 
-  abbrev opened : Table
+  abbrev pub opened : Table
   opened = record { parent = Some t; owner = Some (next_symbol a); names = [] }
 
-  abbrev tables_now : List (Option Table)
+  abbrev pub tables_now : List (Option Table)
   tables_now = with_names a.tables t with_name
 
-  abbrev declared : Scopes K
+  abbrev pub declared : Scopes K
   declared = declared_in a t place name what
 
-  abbrev owner_declared : Scopes K
+  abbrev pub owner_declared : Scopes K
   owner_declared = owner_declared_in a t place name what
 
   names_now : names_in declared t ≡ with_name (names_in a t)
@@ -109,16 +109,16 @@ module _ {K : Type 0} (a : Scopes K) (t : TableId) (place : ℕ) (name : List �
   pub Linked-declared : Linked declared
   Linked-declared = Linked-adds a declared plain links adds refl
 
-  length_tables_now : length tables_now ≡ length a.tables
+  pub length_tables_now : length tables_now ≡ length a.tables
   length_tables_now = length-with_names a.tables t with_name
 
-  opened_at : entry_at owner_declared.tables (length a.tables) ≡ Some opened
+  pub opened_at : entry_at owner_declared.tables (length a.tables) ≡ Some opened
   opened_at = ap (entry_at owner_declared.tables) (sym length_tables_now) ∙ entry_at-push_last tables_now (Some opened)
 
   closed_at : entry_at tables_now (length a.tables) ≡ None
   closed_at = entry_at_past tables_now (length a.tables) (let n = length_tables_now in omega arith)
 
-  other_tables : (u : TableId) → u ≢ next_table a → table_at owner_declared u ≡ table_at declared u
+  pub other_tables : (u : TableId) → u ≢ next_table a → table_at owner_declared u ≡ table_at declared u
   other_tables u d = entry_at-push_other tables_now (Some opened) u.0 (λ e. d (ap table_id (e ∙ length_tables_now)))
 
   -- and what a new table changes

@@ -1,5 +1,10 @@
+pub mod AlikeLemmas
+pub mod BulkLemmas
+pub mod Callers
 pub mod ChangeLemmas
 pub mod ClearLemmas
+pub mod CountLemmas
+pub mod EachLemmas
 pub mod EntryLemmas
 pub mod LinkLemmas
 pub mod NameLemmas

@@ -203,10 +203,15 @@ module _ {K : Type 0} where
         sym (ap (option_and_then (λ (v : Symbol K). v.owned)) live)
         ∙ childless u (ap (option_map (λ (v : Symbol K). v.table)) live ∙ sym e ∙ sym (ap (option_and_then (λ (v : Symbol K). v.owned)) was))))
 
+    pub removed_tables : length (removed_from a s).tables ≡ length a.tables
+    removed_tables =
+        ap (λ (b : Scopes K). length b.tables) removed_is
+        ∙ length-with_names base.tables y.table (without y.name) ∙ length_tables_by a y.owned
+
     owned_is : owned_by a s ≡ y.owned
     owned_is = ap (option_and_then (λ (v : Symbol K). v.owned)) was
 
-    owns_no_owner : y.owned ≡ None → OwnsNoOwner a s
+    pub owns_no_owner : y.owned ≡ None → OwnsNoOwner a s
     owns_no_owner none u e = by (symbol_at a u) (e ∙ owned_is ∙ none)
       where
         by : (o : Option (Symbol K)) → option_map (λ (v : Symbol K). v.table) o ≡ None → option_and_then (λ (v : Symbol K). v.owned) o ≡ None

@@ -1,5 +1,5 @@
 -- The entries of a map by owned bytes, read as pairs of a name and what it stands for.
-use Rattle.std.proofs.Common.{◌≡◌, ℕ, Bool, true, false, cond, List, [], ◌∷◌, ◌++◌, length, map, take, drop, insert, remove, slice_get, Option, Some, None, refl, sym, ap, ◌∙◌, suc}
+use Rattle.std.proofs.Common.{◌≡◌, ℕ, Bool, true, false, cond, filter, List, [], ◌∷◌, ◌++◌, length, map, take, drop, insert, remove, slice_get, Option, Some, None, refl, sym, ap, ◌∙◌, suc}
 use Rattle.std.proofs.lemmas.List.{map-append, take-map, drop-map}
 use Rattle.std.proofs.lemmas.Option.{slice_get-map}
 use Rattle.std.specs.Map.{lookup, remove_entry}
@@ -64,3 +64,13 @@ module _ {V X : Type 0} (key : V → List ℕ) where
     pub remove-seen : (es : List (V × X)) → seen (remove_entry (λ k. test (key k)) es) ≡ remove_entry test (seen es)
     remove-seen [] = refl
     remove-seen (e ∷ es) = remove-step e es (test (key e.0)) (remove-seen es)
+
+  filter-step : (e : V × X) (es : List (V × X)) (test : X → Bool) (b : Bool) → seen (filter (λ d. test d.1) es) ≡ filter (λ d. test d.1) (seen es)
+      → seen (cond b (e ∷ filter (λ d. test d.1) es) (filter (λ d. test d.1) es))
+      ≡ cond b ((key e.0, e.1) ∷ filter (λ d. test d.1) (seen es)) (filter (λ d. test d.1) (seen es))
+  filter-step e es test true h = ap (λ ys. (key e.0, e.1) ∷ ys) h
+  filter-step e es test false h = h
+
+  pub filter-seen : (test : X → Bool) (es : List (V × X)) → seen (filter (λ d. test d.1) es) ≡ filter (λ d. test d.1) (seen es)
+  filter-seen test [] = refl
+  filter-seen test (e ∷ es) = filter-step e es test (test e.1) (filter-seen test es)

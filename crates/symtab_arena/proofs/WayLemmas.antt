@@ -12,7 +12,7 @@ use Rattle.symtab_arena.proofs.LinkLemmas.{some_is}
 
 module _ {K : Type 0} (a : Scopes K) (links : Linked a) where
   -- only a table that is there has a parent
-  has_parent : (t p : TableId) → parent_of a t ≡ Some p → HasTable a t
+  pub has_parent : (t p : TableId) → parent_of a t ≡ Some p → HasTable a t
   has_parent t p e = by (table_at a t) e
     where
       by : (o : Option Table) → option_and_then (λ (x : Table). x.parent) o ≡ Some p → is_some o ≡ true
@@ -38,7 +38,7 @@ module _ {K : Type 0} (a : Scopes K) (links : Linked a) where
     on_way n m t h (Some p) e = h p e
 
     -- more steps than the number of the table change nothing
-    enough : (n m : ℕ) (t : TableId) → t.0 < n → t.0 < m → symbol_within a n t name ≡ symbol_within a m t name
+    pub enough : (n m : ℕ) (t : TableId) → t.0 < n → t.0 < m → symbol_within a n t name ≡ symbol_within a m t name
     enough zero m t h k = absurd (omega arith)
     enough (suc n) zero t h k = absurd (omega arith)
     enough (suc n) (suc m) t h k =

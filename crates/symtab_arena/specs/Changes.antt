@@ -1,12 +1,12 @@
 -- What a declaration, a removal and a change of what a symbol stands for make of the tables and symbols. Nothing else
 -- changes, and the numbers that were given stay given.
-use Rattle.std.specs.Prelude.{◌≡◌, ℕ, ◌==◌, List, [], ◌∷◌, ◌++◌, map, insert, slice_set, Option, Some, None, if◌then◌else◌}
+use Rattle.std.specs.Prelude.{◌≡◌, ℕ, ◌==◌, List, length, [], ◌∷◌, ◌++◌, map, insert, slice_set, Option, Some, None, if◌then◌else◌}
 use Rattle.std.specs.Option.{option_map, option_map_or}
 use Rattle.lf_base.specs.declared.id.SymId.{SymId}
 use Rattle.lf_base.specs.declared.id.TableId.{TableId}
 use Rattle.symtab_arena.specs.Entries.{entry_at}
 use Rattle.symtab_arena.specs.Names.{Names, without}
-use Rattle.symtab_arena.specs.Scopes.{Scopes, symbol_at, next_symbol, next_table, table_of, owned_by}
+use Rattle.symtab_arena.specs.Scopes.{Scopes, symbol_at, names_in, next_symbol, next_table, table_of, owned_by}
 use Rattle.symtab_arena.specs.declared.table.Table.{Table}
 use Rattle.symtab_arena.specs.declared.table.Symbol.{Symbol}
 
@@ -33,6 +33,10 @@ module _ {K : Type 0} (a : Scopes K) where
     tables = with_names a.tables t (λ names. insert names place (name, next_symbol a));
     symbols = a.symbols ++ Some (record { name = name; table = t; owned = None; what = what }) ∷ [];
   }
+
+  -- the same, last in the declaration order
+  abbrev pub declared_last : TableId → List ℕ → K → Scopes K
+  declared_last t name what = declared_in t (length (names_in a t)) name what
 
   -- with a symbol that owns a new empty table besides
   abbrev pub owner_declared_in : TableId → ℕ → List ℕ → K → Scopes K
@@ -63,3 +67,12 @@ removed_from a s = option_map_or
 -- no symbol of the table that a symbol owns owns a table
 abbrev pub OwnsNoOwner : {K : Type 0} → Scopes K → SymId → Type 0
 OwnsNoOwner a s = (u : SymId) → table_of a u ≡ owned_by a s → owned_by a u ≡ None
+
+-- without each of these symbols, one behind another
+abbrev pub removed_each : {K : Type 0} → Scopes K → List SymId → Scopes K
+removed_each a [] = a
+removed_each a (s ∷ ss) = removed_each (removed_from a s) ss
+
+-- A symbol that, where it is live, stands in this table and owns none.
+abbrev pub IsPlainIn : {K : Type 0} → Scopes K → TableId → SymId → Type 0
+IsPlainIn {K} a t s = (y : Symbol K) → symbol_at a s ≡ Some y → (y.table ≡ t) × (y.owned ≡ None)

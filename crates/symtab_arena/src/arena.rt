@@ -1,17 +1,23 @@
-ghost use Rattle.std.specs.Prelude.{◌≡◌, ◌↔◌, Some, IfOk, IsTrue, length};
+ghost use Rattle.std.specs.Prelude.{◌≡◌, ◌↔◌, ◌<◌, ◌≤◌, Some, IfOk, IsTrue, length};
 ghost use Rattle.symtab_arena.specs.Changes.{replaced_in};
+ghost use Rattle.std.specs.Borrow.{sem};
+ghost use Rattle.symtab_arena.specs.Lends.{lends_what};
 ghost use Rattle.symtab_arena.specs.Links.{Linked};
-ghost use Rattle.symtab_arena.specs.Scopes.{the_root, next_table as table_next, HasTable, IsLive, live_count, symbol_in, symbol_in_place, symbol_seen, parent_of, owner_of, owned_by, table_of, name_of, what_of};
+ghost use Rattle.symtab_arena.specs.Scopes.{the_root, symbol_numbers, names_in, next_table as table_next, HasTable, IsLive, live_count, symbol_in, symbol_in_place, symbol_seen, parent_of, owner_of, owned_by, table_of, name_of, what_of};
 
 mod declare;
 mod remove;
 
 use crate::entries::{entry, there};
+use crate::key::NameKey;
 use crate::names::Names;
-use crate::table::{Symbol, Table, replace_what};
+use crate::table::{Symbol, Table, replace_what, what_there};
 use lf_base::{Memory, Name, SymId, TableId};
 use std::alloc::Global;
 use std::marker::Model;
+
+/// The key of an arena that was given none.
+const KNOWN_KEY: [u64; 2] = [0, 0];
 
 /// Tables of symbols by number, for the scopes of a program (ISO/IEC 1539-1:2018, 19.1).
 ///
@@ -20,13 +26,14 @@ use std::marker::Model;
 /// which that owner stands. Names in a table are distinct, and each table keeps the order in which
 /// its names were declared. Numbers are given in rising order and never again.
 ///
-/// Looking a name up and declaring one last take expected constant time in the size of a table. A
-/// removal and a declaration before others take time in the number of the table's symbols. The
-/// hasher is the default of `indexmap` and is not keyed: names that are chosen to collide make
-/// look-ups slower.
+/// Looking a name up and declaring one last take expected constant time in the size of a table:
+/// names are hashed with a key (see `keyed`). A single removal and a declaration before others take
+/// time in the number of the table's symbols, and so does `remove_all` for as many symbols of a
+/// table as it is given.
 #[derive(Drop)]
 pub struct Arena<K> {
     alloc: Global,
+    key: NameKey,
     tables: Vec<Option<Table>>,
     symbols: Vec<Option<Symbol<K>>>,
     live: usize,
@@ -47,19 +54,32 @@ impl<K> Model for Arena<K> {
 }
 
 impl<K> Arena<K> {
-    /// The root table 0, with no symbol. It fails only for want of memory.
+    /// The root table 0, with no symbol. It fails only for want of memory. Its names are hashed with
+    /// a key that everybody knows: where names may be chosen to collide, take `keyed`.
     pub fn new(alloc: Global) -> Result<Arena<K>, Memory>
         ensures { IfOk result (λ a. a ≡ the_root) }
     {
+        Arena::keyed(alloc, KNOWN_KEY)
+    }
+
+    /// The root table 0, as `new`, whose names are hashed with this key. No answer and no order
+    /// depends on the key, only the time that look-ups take. The key must be one that whoever chose
+    /// the names could not choose them by, such as a digest of the whole source.
+    pub fn keyed(alloc: Global, key: [u64; 2]) -> Result<Arena<K>, Memory>
+        ensures { IfOk result (λ a. a ≡ the_root) }
+    {
+        let [first, second] = key;
+        let key = NameKey { first, second };
         let mut tables = Vec::new(alloc);
         let root = Table {
             parent: None,
             owner: None,
-            names: Names::new(alloc),
+            names: Names::new(alloc, key),
         };
         match tables.push(Some(root)) {
             Ok(()) => Ok(Arena {
                 alloc,
+                key,
                 tables,
                 symbols: Vec::new(alloc),
                 live: 0,
@@ -185,6 +205,44 @@ impl<K> Arena<K> {
         ensures { result ≡ symbol_in_place self.now table place }
     {
         entry(&self.tables, table.0)?.names.at(place)
+    }
+
+    /// How many symbols stand in a table.
+    pub fn table_len(&self, table: TableId) -> usize
+        ensures len { result ≡ length (names_in self.now table) }
+        ensures live { result ≤ live_count self.now }
+        ensures small { result ≤ symbol_numbers }
+    {
+        self.linked();
+        self.size(table)
+    }
+
+    fn size(&self, table: TableId) -> usize
+        ensures { result ≡ length (names_in self.now table) }
+    {
+        match entry(&self.tables, table.0) {
+            Some(there) => there.names.len(),
+            None => 0,
+        }
+    }
+
+    /// The symbol at a place of a table's declaration order, of those below `table_len`.
+    pub fn nth(&self, table: TableId, place: usize) -> SymId
+        requires { place < length (names_in self.now table) }
+        ensures listed { symbol_in_place self.now table place ≡ Some result }
+        ensures stands { table_of self.now result ≡ Some table }
+    {
+        self.linked();
+        self.at(table, place).unwrap()
+    }
+
+    /// What a live symbol stands for, to be changed.
+    pub fn what_mut(&mut self, symbol: SymId) -> &mut K
+        requires { IsLive self.old symbol }
+        ensures* writes_back { sem 𝓛 (lends_what K.row self.entry symbol result) }
+        ensures value { what_of self.old symbol ≡ Some result.now }
+    {
+        what_there(&mut self.symbols[symbol.0 as usize])
     }
 
     /// Changes what a live symbol stands for, and hands the old one back.

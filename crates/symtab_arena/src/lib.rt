@@ -4,7 +4,9 @@
 mod arena;
 mod entries;
 mod fault;
+mod key;
 mod names;
+mod sample;
 mod table;
 
 pub use arena::Arena;

@@ -1,9 +1,12 @@
-ghost use Rattle.std.specs.Prelude.{◌≡◌, ◌≤◌, [], ◌∷◌, ◌++◌, length, insert, slice_get, None, OnOk, OnErr};
+ghost use Rattle.std.specs.Prelude.{◌≡◌, ◌≤◌, [], ◌∷◌, ◌++◌, length, insert, filter, slice_get, is_some, None, OnOk, OnErr};
 ghost use Rattle.std.specs.Map.{remove_entry};
 ghost use Rattle.std.specs.Option.{option_map};
 ghost use Rattle.std.specs.Str.{bytes_eq};
-ghost use Rattle.symtab_arena.specs.Names.{named};
+ghost use Rattle.symtab_arena.specs.Entries.{entry_at};
+ghost use Rattle.symtab_arena.specs.Names.{named, those_there};
 
+use crate::entries::entry;
+use crate::key::NameKey;
 use indexmap::IndexMap;
 use lf_base::{Memory, SymId};
 use std::alloc::Global;
@@ -12,7 +15,7 @@ use std::marker::Model;
 /// The names of one table with their symbols, in declaration order. No name stands twice.
 #[derive(Drop)]
 pub struct Names {
-    entries: IndexMap<Vec<u8>, SymId>,
+    entries: IndexMap<Vec<u8>, SymId, NameKey>,
 }
 
 impl Model for Names {
@@ -26,11 +29,11 @@ impl Model for Names {
 
 impl Names {
     /// No names. It takes no memory before the first insertion.
-    pub fn new(alloc: Global) -> Names
+    pub fn new(alloc: Global, key: NameKey) -> Names
         ensures { result ≡ [] }
     {
         Names {
-            entries: IndexMap::new(alloc),
+            entries: IndexMap::with_hasher(alloc, key),
         }
     }
 
@@ -91,5 +94,16 @@ impl Names {
         ensures { self.new ≡ remove_entry (bytes_eq name.now) self.old }
     {
         let _ = self.entries.shift_remove(name);
+    }
+
+    /// Keeps the names at whose symbol's number something stands, in their order.
+    pub fn keep_there<X>(&mut self, entries: &[Option<X>])
+        ensures { self.new ≡ those_there entries.now self.old }
+    {
+        self.entries.retain(
+            |_name: &Vec<u8>, symbol: &mut SymId| -> bool
+                ensures { (result ≡ is_some (entry_at entries.entry.now symbol.old.0)) × (symbol.new ≡ symbol.old) }
+            { entry(entries, symbol.0).is_some() },
+        );
     }
 }

@@ -1,9 +1,11 @@
-ghost use Rattle.std.specs.Prelude.{◌≡◌, ◌≤◌, ◌+◌, Some, None, OnOk, OnErr, length, insert, slice_set, vec_capacity, is_some, count_by};
+ghost use Rattle.std.specs.Prelude.{◌≡◌, ◌≤◌, ◌+◌, Some, None, IsSome, OnOk, OnErr, length, insert, slice_set, vec_capacity, is_some, count_by};
 ghost use Rattle.std.specs.Option.{option_map};
 ghost use Rattle.symtab_arena.specs.Changes.{standing_for, with_names};
 ghost use Rattle.symtab_arena.specs.Entries.{entry_at, IsThere};
-ghost use Rattle.symtab_arena.specs.Names.{named, without};
-ghost use Rattle.symtab_arena.specs.Tables.{names_at, cleared};
+ghost use Rattle.std.specs.Borrow.{sem};
+ghost use Rattle.symtab_arena.specs.Lends.{lends_place};
+ghost use Rattle.symtab_arena.specs.Names.{named, without, those_there};
+ghost use Rattle.symtab_arena.specs.Tables.{names_at, cleared, without_each};
 
 use crate::entries::{entry, take};
 use crate::names::Names;
@@ -65,6 +67,18 @@ pub(crate) fn remove_name(tables: &mut Vec<Option<Table>>, table: TableId, name:
     }
 }
 
+/// What the symbol at a place stands for, to be changed.
+pub(crate) fn what_there<K>(place: &mut Option<Symbol<K>>) -> &mut K
+    requires { IsSome place.old }
+    ensures* writes_back { sem 𝓛 (lends_place K.row place.entry result) }
+    ensures value { option_map (λ y. y.what) place.old ≡ Some result.now }
+{
+    match place {
+        Some(there) => &mut there.what,
+        None => unreachable!(),
+    }
+}
+
 /// Changes what a symbol stands for, and hands the old one back.
 pub(crate) fn replace_what<K>(symbols: &mut Vec<Option<Symbol<K>>>, symbol: SymId, with: K) -> K
     requires { IsThere symbols.old.items symbol.0 }
@@ -106,6 +120,29 @@ fn clear<K: Drop>(symbols: &mut Vec<Option<Symbol<K>>>, names: &Names) -> usize
         }
     }
     gone
+}
+
+/// Takes out the symbols at these numbers, and counts those that were there.
+pub(crate) fn clear_each<K: Drop>(symbols: &mut Vec<Option<Symbol<K>>>, gone: &[SymId]) -> usize
+    ensures left { symbols.new.items ≡ without_each gone.now symbols.old.items }
+    ensures count { count_by is_some symbols.new.items + result
+        ≡ count_by is_some symbols.old.items }
+{
+    let mut count = 0;
+    for symbol in gone {
+        count += clear_one(symbols, *symbol);
+    }
+    count
+}
+
+/// Keeps the names of a table whose symbols are there.
+pub(crate) fn keep_there<X>(tables: &mut Vec<Option<Table>>, table: TableId, symbols: &[Option<X>])
+    requires { IsThere tables.old.items table.0 }
+    ensures { tables.new.items ≡ with_names tables.old.items table (those_there symbols.now) }
+{
+    if let Some(there) = &mut tables[table.0 as usize] {
+        there.names.keep_there(symbols);
+    }
 }
 
 /// Takes out a table and the symbols that it lists, and counts those that were there.

@@ -1,11 +1,11 @@
 //! Declarations.
 ghost use Rattle.std.specs.Prelude.{◌≡◌, ◌<◌, ◌≤◌, IfOk, length};
-ghost use Rattle.symtab_arena.specs.Answers.{Admits, Declares, Makes, MayDeclare};
+ghost use Rattle.symtab_arena.specs.Answers.{Admits, Declares, DeclaresEach, Makes, MayDeclare};
 ghost use Rattle.symtab_arena.specs.Changes.{declared_in, owner_declared_in};
 ghost use Rattle.symtab_arena.specs.Scopes.{next_symbol, next_table, HasTable, names_in};
 
 use super::Arena;
-use crate::entries::{entry, reserve};
+use crate::entries::reserve;
 use crate::fault::ArenaFault;
 use crate::names::Names;
 use crate::table::{Symbol, Table, insert_name};
@@ -26,16 +26,6 @@ fn key_of(alloc: Global, name: &Name) -> Result<Vec<u8>, Memory>
 }
 
 impl<K> Arena<K> {
-    /// How many symbols stand in a table.
-    fn size(&self, table: TableId) -> usize
-        ensures { result ≡ length (names_in self.now table) }
-    {
-        match entry(&self.tables, table.0) {
-            Some(there) => there.names.len(),
-            None => 0,
-        }
-    }
-
     /// Whether a name may be declared in a table, but for memory.
     fn admit(&self, table: TableId, name: &Name) -> Result<(), ArenaFault>
         ensures { Admits self.now table name.now result }
@@ -63,6 +53,22 @@ impl<K: Drop> Arena<K> {
     {
         let place = self.size(table);
         self.declare_at(table, place, name, what)
+    }
+
+    /// Declares names in order, as `declare` does with each, up to the first that is refused. The
+    /// answer is that refusal, and the names before it stay declared. It takes expected time in the
+    /// number of the names.
+    pub fn declare_all(&mut self, table: TableId, names: Vec<(Name, K)>) -> Result<(), ArenaFault>
+        requires { HasTable self.old table }
+        ensures { DeclaresEach self.old table names.items self.new result }
+    {
+        for (name, what) in names {
+            match self.declare(table, &name, what) {
+                Ok(_) => {}
+                Err(fault) => return Err(fault),
+            }
+        }
+        Ok(())
     }
 
     /// Declares a name as `declare` does, at a place of the declaration order. Later symbols move up
@@ -171,7 +177,7 @@ impl<K: Drop> Arena<K> {
         self.tables.push_reserved(Some(Table {
             parent: Some(table),
             owner: Some(symbol),
-            names: Names::new(self.alloc),
+            names: Names::new(self.alloc, self.key),
         }));
         self.symbols.push_reserved(Some(Symbol {
             name: own,

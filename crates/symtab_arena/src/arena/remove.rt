@@ -1,12 +1,13 @@
 //! Removals.
-ghost use Rattle.std.specs.Prelude.{◌≡◌, Some, None, IsSome};
-ghost use Rattle.symtab_arena.specs.Changes.{removed_from, OwnsNoOwner};
-ghost use Rattle.symtab_arena.specs.Scopes.{IsLive, owned_by, what_of};
+ghost use Rattle.std.specs.Prelude.{◌≡◌, Some, None, IsSome, All};
+ghost use Rattle.symtab_arena.specs.Changes.{removed_from, removed_each, IsPlainIn, OwnsNoOwner};
+ghost use Rattle.symtab_arena.specs.Names.{those_there};
+ghost use Rattle.symtab_arena.specs.Scopes.{HasTable, IsLive, names_in, owned_by, what_of};
 
 use super::Arena;
 use crate::entries::take;
-use crate::table::{Symbol, drop_scope, remove_name};
-use lf_base::SymId;
+use crate::table::{Symbol, clear_each, drop_scope, keep_there, remove_name};
+use lf_base::{SymId, TableId};
 
 impl<K> Arena<K> {
     /// Takes out a live symbol that owns no table, and hands back what it stood for. Its number is
@@ -50,5 +51,19 @@ impl<K: Drop> Arena<K> {
         remove_name(&mut self.tables, table, name.bytes());
         self.live -= 1 + inside;
         what
+    }
+
+    /// Takes out symbols of one table that own no table, all at once. Those that are not live are
+    /// passed over. It leaves what removing them one by one leaves, and the others of the table stay
+    /// in their order. It takes time in the number of the table's symbols and of those that are listed.
+    pub fn remove_all(&mut self, table: TableId, gone: &[SymId])
+        requires there { HasTable self.old table }
+        requires plain { All (IsPlainIn self.old table) gone.now }
+        ensures removed { self.new ≡ removed_each self.old gone.now }
+        ensures order { names_in self.new table ≡ those_there self.new.symbols (names_in self.old table) }
+    {
+        let count = clear_each(&mut self.symbols, gone);
+        keep_there(&mut self.tables, table, &self.symbols);
+        self.live -= count;
     }
 }

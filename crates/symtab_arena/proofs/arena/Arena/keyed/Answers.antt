@@ -1,6 +1,6 @@
 use Rattle.std.proofs.Common.{ap, ◌∙◌, [], ◌∷◌, ◌++◌, Some, None}
 use Rattle.symtab_arena.proofs.LinkLemmas.{new_links}
-use Rattle.symtab_arena.proofs.arena.Arena.new.Goals as goal
+use Rattle.symtab_arena.proofs.arena.Arena.keyed.Goals as goal
 
 pub invariant_of-result : goal.invariant_of-result
 invariant_of-result g c =

@@ -18,9 +18,17 @@ putchar(32);
 int64_t t1 = 2;
 int64_t t2 = 3;
 int64_t t3 = 4;
+lf_name = (unsigned char *)\"x/p1.f90\";
+lf_line = 2;
 int64_t t4 = lf_mul(t2, t3);
+lf_name = (unsigned char *)\"x/p1.f90\";
+lf_line = 2;
 int64_t t5 = lf_fit(t4);
+lf_name = (unsigned char *)\"x/p1.f90\";
+lf_line = 2;
 int64_t t6 = lf_add(t1, t5);
+lf_name = (unsigned char *)\"x/p1.f90\";
+lf_line = 2;
 int64_t t7 = lf_fit(t6);
 lf_gap(&r1, 1);
 lf_int(t7);
@@ -43,12 +51,24 @@ putchar(32);
 int64_t t1 = 1;
 int64_t t2 = 2;
 int64_t t3 = 3;
+lf_name = (unsigned char *)\"x/p1.f90\";
+lf_line = 3;
 int64_t t4 = lf_mul(t2, t3);
+lf_name = (unsigned char *)\"x/p1.f90\";
+lf_line = 3;
 int64_t t5 = lf_fit(t4);
+lf_name = (unsigned char *)\"x/p1.f90\";
+lf_line = 3;
 int64_t t6 = lf_sub(t1, t5);
+lf_name = (unsigned char *)\"x/p1.f90\";
+lf_line = 3;
 int64_t t7 = lf_fit(t6);
 int64_t t8 = 4;
+lf_name = (unsigned char *)\"x/p1.f90\";
+lf_line = 3;
 int64_t t9 = lf_sub(t7, t8);
+lf_name = (unsigned char *)\"x/p1.f90\";
+lf_line = 3;
 int64_t t10 = lf_fit(t9);
 lf_gap(&r1, 1);
 lf_int(t10);
@@ -62,8 +82,11 @@ return 0;
 const HEAD: &str = "#include <stdint.h>
 #include <stdio.h>
 #include <stdlib.h>
+static unsigned char *lf_name;
+static int64_t lf_line;
 static void lf_trap(int64_t k, unsigned char *s) {
 int64_t i = 0;
+int64_t d = 1;
 ";
 
 const FOOT: &str = "static void lf_end(int64_t a) {

@@ -1,5 +1,5 @@
 -- The words of a command are texts, so what they are made of are bytes; and a source's name has at most 255 of them.
-use Rattle.std.proofs.Common.{◌≡◌, ℕ, ◌<◌, ◌≤◌, Bool, true, false, List, [], ◌∷◌, ◌++◌, length, map, Option, Some, None, string_bytes, cond, refl, subst, arith}
+use Rattle.std.proofs.Common.{◌≡◌, ℕ, ◌<◌, ◌≤◌, Bool, true, false, List, [], ◌∷◌, ◌++◌, ◌+◌, ◌/◌, ◌%◌, length, map, Option, Some, None, string_bytes, cond, refl, subst, arith}
 use Rattle.std.specs.Prelude.{◌&&◌, ltb}
 use Rattle.std.specs.declared.string.String.{String}
 use Rattle.std.specs.List.{AllByRecursion}
@@ -8,7 +8,7 @@ use Rattle.std.specs.Str.{IsUtf8, all_scalars, encode_utf8_all}
 use Rattle.std.proofs.lemmas.Bool.Decides.{nat_tests}
 use Rattle.std.proofs.lemmas.Str.{IsUtf8-string_bytes}
 use Rattle.lf_driver.specs.declared.command.Verb.{Verb}
-use Rattle.lf_driver.specs.Words.{is_source_name, verb_of, with_file, words_of}
+use Rattle.lf_driver.specs.Words.{CommandText, is_source_name, verb_of, with_file, words_of}
 
 abbrev pub AreBytes : List ℕ → Type 0
 AreBytes = AllByRecursion (λ b. b < 256)
@@ -64,7 +64,7 @@ named (a ∷ []) h verb file e = absurd (cc)
 named (a ∷ b ∷ c ∷ more) h verb file e = absurd (cc)
 named (a ∷ b ∷ []) h verb file e = by_verb (verb_of a) e
   where
-    by_name : (v : Verb) (t : Bool) → is_source_name b ≡ t → cond t (Some (v, 0, b ∷ [])) None ≡ Some (verb, 0, file ∷ []) → IsName file
+    by_name : (v : Verb) (t : Bool) → is_source_name b ≡ t → cond {A = Option CommandText} t (Some (v, 0, b ∷ [])) None ≡ Some (verb, 0, file ∷ []) → IsName file
     by_name v true p q = let same : b ≡ file = cc in record { short = subst (λ f. length f ≤ 255) same (short_name b p); bytes = subst AreBytes same h.1.0 }
     by_name v false p q = absurd (cc)
 

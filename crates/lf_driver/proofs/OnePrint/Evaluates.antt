@@ -22,8 +22,8 @@ use Rattle.c_semantics.specs.CMeaning as meaning
 use Rattle.c_prelude.specs.PreludeLaws.{HasPrelude, Locates, aged, trap_turns, Combines}
 use Rattle.c_semantics.proofs.CExprs.{exprs}
 use Rattle.c_semantics.proofs.CRuns.{run_assign, run_declare_value, run_declare_call}
-use Rattle.c_prelude.proofs.PreludeArithmetic.{add_law, sub_law, fit_law}
-use Rattle.c_prelude.proofs.PreludeMultiply.{mul_law}
+use Rattle.c_prelude.proofs.PreludeArithmetic.{add_law, fit_law}
+use Rattle.c_prelude.proofs.PreludeMultiply.{mul_law, sub_law}
 use Rattle.lf_driver.specs.declared.one_print.built.Operator.{Operator}
 use Rattle.lf_driver.specs.declared.one_print.built.Operator.TheVariants.{Add, Subtract, Multiply}
 use Rattle.lf_driver.specs.OnePrint.Source.{Tree, Literal, Binary, IsLocation}

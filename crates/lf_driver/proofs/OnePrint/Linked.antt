@@ -260,9 +260,9 @@ module _ (location : Location) (init : List ℕ) (found : Finds init) where
       let a = some l in
       let b = some r in
       let all : k + 2 ≡ behind + count (Binary operator l r) = omega arith in
-      run_append (lowered location l behind) (lowered location r m ++ operation location operator m k k) (scope behind) (scope m) (run_lowered location l behind (omega (arith, few)))
-      ∙ run_append (lowered location r m) (operation location operator m k k) (scope m) (scope k) (run_lowered location r m (omega (arith, few)))
-      ∙ run_operation location operator m k k (omega (arith, few)) (omega arith) (omega arith) (omega arith) (omega arith)
+      run_append (lowered location l behind) (lowered location r m ++ operation location operator m k k) (scope behind) (scope m) (run_lowered l behind (omega (arith, few)))
+      ∙ run_append (lowered location r m) (operation location operator m k k) (scope m) (scope k) (run_lowered r m (omega (arith, few)))
+      ∙ run_operation operator m k k (omega (arith, few)) (omega arith) (omega arith) (omega arith) (omega arith)
       ∙ ap (λ i. Some (scope i)) all
 
   run_ends : (k : ℕ) → Few k → 1 ≤ k → run (printing_ends k) (scope k) ≡ Some (scope k)
@@ -283,7 +283,7 @@ module _ (location : Location) (init : List ℕ) (found : Finds init) where
   run_printed : (t : Tree) → count t < 2 ^ 70 → run (printed location t) outer ≡ Some (scope (count t))
   run_printed t few =
       let from : 0 + count t ≡ count t = omega arith in
-      run_append (printing_begins ++ lowered location t 0) (printing_ends (count t)) outer (scope (count t)) (run_append printing_begins (lowered location t 0) outer (scope 0) run_begins ∙ run_lowered location t 0 (omega (arith, few)) ∙ ap (λ i. Some (scope i)) from)
+      run_append (printing_begins ++ lowered location t 0) (printing_ends (count t)) outer (scope (count t)) (run_append printing_begins (lowered location t 0) outer (scope 0) run_begins ∙ run_lowered t 0 (omega (arith, few)) ∙ ap (λ i. Some (scope i)) from)
       ∙ run_ends (count t) (few_wide (count t) few) (some t)
 
   calls_init : call_gives (known init) outer init [] ≡ Some result.Void
@@ -365,7 +365,7 @@ body_there : (location : Location) (source : Source) (init : List ℕ) (body : L
 body_there location source init body h k = simp (callings, h, k) refl
 
 items_there : (location : Location) (source : Source) (init : List ℕ) (body : List CStmt) → list_all (calls_only (there location source)) body ≡ true → list_all (item_calls_only (there location source)) (Prototype result.Void init [] ∷ Function false result.Void init [] (Return ∷ []) ∷ Function false result.Int (codes "main") [] body ∷ []) ≡ true
-items_there source init body h = simp (callings, h) refl
+items_there location source init body h = simp (callings, h) refl
 
 defined_of : (location : Location) (source : Source) → list_all (item_calls_only (there location source)) (lowered_file location source).items ≡ true
 defined_of location source =
@@ -373,7 +373,7 @@ defined_of location source =
     let body = body_there location source (init_name source.name) (printed location source.value) (init_there location source) right in
     list_all-append (item_calls_only (there location source)) prelude_items (lowered_items location source)
     ∙ ap (λ b. b && list_all (item_calls_only (there location source)) (lowered_items location source)) (prelude_calls location source)
-    ∙ items_there source (init_name source.name) (main_body location source) body
+    ∙ items_there location source (init_name source.name) (main_body location source) body
 
 agreed_of : (location : Location) (source : Source) → are_agreed (shown_in (lowered_file location source ∷ [])) ≡ true
 agreed_of location source = simp (same_name (init_name source.name)) refl

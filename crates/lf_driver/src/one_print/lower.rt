@@ -179,7 +179,7 @@ fn assign(alloc: Global, target: &[u8], value: CExpr) -> Result<CStmt, Memory>
 
 // The lines that note where a trap of the next statement shows.
 fn note(alloc: Global, body: &mut Items<CStmt>, at: Located) -> Result<(), Memory>
-    ensures { OnOk result (body.new ≡ body.old ++ noted (location_at at)) }
+    ensures { OnOk result (body.new ≡ body.old ++ noted (location_at at.entry)) }
 {
     let source = literal_text(alloc, at.source)?;
     let stmt = assign(alloc, b"lf_name", source)?;
@@ -200,7 +200,7 @@ fn emit_operation(
     right: usize,
     behind: usize,
 ) -> Result<usize, Memory>
-    ensures body { OnOk result (body.new ≡ body.old ++ operation (location_at at) operator left right behind) }
+    ensures body { OnOk result (body.new ≡ body.old ++ operation (location_at at.entry) operator left right behind) }
     ensures count { IfOk result (λ n. n ≡ behind + 2) }
 {
     note(alloc, body, at)?;
@@ -241,7 +241,7 @@ fn emit(
     value: &Expr,
     behind: usize,
 ) -> Result<Option<usize>, Memory>
-    ensures { Emits (location_at at) result (tree_in value.now) behind body.old body.new }
+    ensures { Emits (location_at at.entry) result (tree_in value.now) behind body.old body.new }
 {
     match value {
         Expr::Int { digits, suffix } => {
@@ -362,7 +362,7 @@ pub(crate) fn print_value(
     at: Located,
     value: &Expr,
 ) -> Result<Option<Items<CStmt>>, Memory>
-    ensures { EmitsPrint (location_at at) result (tree_in value.now) }
+    ensures { EmitsPrint (location_at at.entry) result (tree_in value.now) }
 {
     let mut body = begin_printing(alloc)?;
     match emit(alloc, &mut body, at, value, 0)? {

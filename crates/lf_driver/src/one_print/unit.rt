@@ -30,7 +30,7 @@ fn print_items(
     advance: u8,
     items: &[Expr],
 ) -> Result<Option<Items<CStmt>>, Memory>
-    ensures { EmitsPrint (location_at at) result (printed_in form advance items.now) }
+    ensures { EmitsPrint (location_at at.entry) result (printed_in form advance items.now) }
 {
     match items {
         [item] => {
@@ -51,7 +51,7 @@ fn print_statement(
     at: Located,
     statement: &Statement,
 ) -> Result<Option<Items<CStmt>>, Memory>
-    ensures { EmitsPrint (location_at at) result (value_seen (seen statement.now)) }
+    ensures { EmitsPrint (location_at at.entry) result (value_seen (seen statement.now)) }
 {
     match statement {
         Statement::Print {

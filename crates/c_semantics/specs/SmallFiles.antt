@@ -17,7 +17,7 @@ use Rattle.c_nodes.specs.declared.tree.CItem.TheVariants.{Object, StaticObject, 
 use Rattle.c_nodes.specs.declared.tree.CFile.{CFile}
 use Rattle.c_nodes.specs.ShownFile.{main, ends, p_type, x_of, c_of}
 use Rattle.c_semantics.specs.CMeaning.{CMeaning}
-use Rattle.c_semantics.specs.Linking.{IsProgram}
+use Rattle.c_semantics.specs.Program.{IsProgram}
 
 abbrev pub file : List CItem → CFile
 file items = record { items = items }

@@ -4,7 +4,7 @@ ghost use Rattle.std.specs.Prelude.{◌≡◌, ℕ, ◌≤◌, ◌==◌, IsTrue,
 ghost use Rattle.lf_base.specs.Near.{IsMonotone};
 ghost use Rattle.c_nodes.specs.declared.tree.CFile.{CFile};
 ghost use Rattle.c_semantics.specs.CMeaning.{CMeaning};
-ghost use Rattle.c_semantics.specs.Linking.{IsProgram};
+ghost use Rattle.c_semantics.specs.Program.{IsProgram};
 ghost use Rattle.c_semantics.specs.Reserved.{is_reserved, is_free_front};
 ghost use Rattle.c_semantics.specs.SmallFiles.{returns_number, returns_nothing, returns_too_much, pointer_in_block, pointer_after_block, pointer_after_call, sets_pointer, unset_pointer, own_object, keeps_object, empty_array, call_into_element, declares, declares_library, low_name, static_twice, Unlinked, leads_nowhere, jumps_past_array, label_twice, no_member, no_structure, number_as_structure, undefined_object, unused_object, other_type, defines_again, Writes, IsUndefined, IsCut, EndsWith, file, turns, jumps, structures, wraps, stops_early, zeros, shares, sets, forever, leaves, overflow, int_overflow, by_zero, least_by_minus_one, int32_cast, int_cast, int32_store, unset_read, unset_copy, outside, pointer_outside, outside_member, no_elements, literal_write};
 

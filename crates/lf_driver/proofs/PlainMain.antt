@@ -7,7 +7,7 @@ use Rattle.c_nodes.specs.declared.tree.CExpr.TheVariants.{Variable, Constant, Ad
 use Rattle.c_nodes.specs.declared.tree.CStmt.{CStmt}
 use Rattle.c_nodes.specs.declared.tree.CStmt.TheVariants.{Return}
 use Rattle.c_nodes.specs.Grammar.{has_last_labels}
-use Rattle.c_semantics.specs.Linking.{has_right_jumps}
+use Rattle.c_semantics.specs.Program.{has_right_jumps}
 use Rattle.c_prelude.specs.Prelude.{prelude_items}
 use Rattle.c_prelude.proofs.PreludeLinked.{prelude_jumps}
 use Rattle.c_semantics.proofs.PlainBodies.{Plain, plain_value, plain_call_value, plain_call, plain_return, plain_return_value, plain_block, plain_last, plain_jumps}

@@ -9,7 +9,7 @@ use Rattle.lf_base.specs.Outcome.{Place}
 use Rattle.ast_nodes.specs.declared.file.File.{File}
 use Rattle.c_semantics.specs.CMeaning.{CMeaning}
 use Rattle.c_prelude.specs.PreludeFile.{Spells}
-use Rattle.c_semantics.specs.Linking.{IsProgram}
+use Rattle.c_semantics.specs.Program.{IsProgram}
 use Rattle.lf_driver.specs.Answers.{Call}
 use Rattle.lf_driver.specs.Built.{program_in}
 use Rattle.lf_driver.specs.Fortran.{FortranMeaning}

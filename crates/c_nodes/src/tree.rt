@@ -217,8 +217,7 @@ pub enum CStmt {
 }
 
 /// A declaration of a structure, and a declaration or definition of an object or a function outside functions
-/// (6.7, 6.9).
-#[derive(Drop)]
+/// (6.7, 6.9). Its statements are dropped in a room that does not grow with a chain of `else if`.
 pub enum CItem {
     /// `struct N {`, a line `T N;` or `T N[c];` for each member, `};`
     Struct {
@@ -254,6 +253,66 @@ pub enum CItem {
         parameters: Items<CParameter>,
         body: Items<CStmt>,
     },
+}
+
+// The last statement in which a chain of `else if` goes on, if there is one.
+fn pop_last(stmt: &mut CStmt) -> Option<CStmt> {
+    match stmt {
+        CStmt::Block { body } => body.pop(),
+        CStmt::IfElse { else_body, .. } => else_body.pop(),
+        _ => None,
+    }
+}
+
+// A chain of `else if` is a tree as deep as the chain is long. Its last statement is taken out before it is dropped,
+// so that dropping the chain takes no frame for each of its arms.
+fn release(stmt: CStmt) {
+    let mut last = stmt;
+    for _ in 0..u64::MAX {
+        match pop_last(&mut last) {
+            Some(next) => last = next,
+            None => return,
+        }
+    }
+}
+
+fn release_all(body: Items<CStmt>) {
+    let mut rest = body;
+    for _ in 0..u64::MAX {
+        match rest.pop() {
+            Some(stmt) => release(stmt),
+            None => return,
+        }
+    }
+}
+
+impl Drop for CItem {
+    fn drop(self) {
+        match self {
+            CItem::Struct {
+                name: _,
+                members: _,
+            } => {}
+            CItem::Object {
+                is_extern: _,
+                object: _,
+            } => {}
+            CItem::StaticObject { kind: _, name: _ } => {}
+            CItem::StaticPointer { kind: _, name: _ } => {}
+            CItem::Prototype {
+                result: _,
+                name: _,
+                parameters: _,
+            } => {}
+            CItem::Function {
+                is_static: _,
+                result: _,
+                name: _,
+                parameters: _,
+                body,
+            } => release_all(body),
+        }
+    }
 }
 
 /// A translation unit (6.9): three headers, and the items behind them, which begin with those of the prelude.

@@ -1,5 +1,5 @@
 -- The prelude's sum of 64 bits, and the test for 32: the exact value, or the trap of an overflow.
-use Rattle.std.proofs.Common.{◌≡◌, ℕ, zero, suc, ◌+◌, ◌≤◌, Bool, true, false, not, List, [], ◌∷◌, ◌++◌, length, map, Option, Some, None, codes, refl, sym, ap, ◌∙◌, arith}
+use Rattle.std.proofs.Common.{◌≡◌, ℕ, suc, ◌≤◌, Bool, true, false, not, List, [], ◌∷◌, ◌++◌, map, Some, None, codes, refl, ap, ◌∙◌, arith}
 use Rattle.std.specs.Prelude.{int_lt, ◌+ℤ◌, ◌-ℤ◌}
 use Rattle.std.proofs.Math.IntN.{ℤ, pos}
 use Rattle.std.proofs.lemmas.Int.{ints}
@@ -21,7 +21,7 @@ use Rattle.c_nodes.specs.declared.tree.CStmt.TheVariants.{Call, ReturnValue, If}
 use Rattle.c_semantics.specs.CValues.{Width, W32, W64, Text, CValue, Number, Pointer, fits, truth, least32, greatest32, least64, greatest64}
 use Rattle.c_semantics.specs.CState.{Around, Cells, Stored, State, declare, closed}
 use Rattle.c_semantics.specs.CMeaning.{reading, Calls, Procedure, Returned, started, entering, call, on_procedure, function_of, function_in, calls_of, statement, statements}
-use Rattle.c_prelude.specs.PreludeLaws.{HasPrelude, Locates, Does, aged, trapped, trap_turns, TrapsOver, Answers, Fits, Combines}
+use Rattle.c_prelude.specs.PreludeLaws.{HasPrelude, Locates, aged, trapped, trap_turns, TrapsOver, Fits, Combines}
 use Rattle.c_prelude.specs.Prelude.{prelude_items}
 use Rattle.c_semantics.proofs.CExprs.{exprs}
 use Rattle.c_semantics.proofs.CRuns.{stop_call, run_return, run_if_not, if_so, stop_block}

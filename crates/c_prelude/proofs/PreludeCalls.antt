@@ -1,6 +1,6 @@
 -- Functions of the prelude in a file that begins with it: how one is found, what its call leaves, and what its call
 -- does at fewer turns and depths.
-use Rattle.std.proofs.Common.{◌≡◌, ℕ, zero, suc, ◌+◌, ◌-◌, ◌≤◌, true, List, ◌++◌, Option, Some, ap, subst, ◌∙◌, arith, refl, sym}
+use Rattle.std.proofs.Common.{◌≡◌, ℕ, zero, suc, ◌+◌, ◌-◌, ◌≤◌, true, List, ◌++◌, Option, Some, ap, subst, ◌∙◌, arith}
 use Rattle.lf_base.specs.Outcome.{Written}
 use Rattle.lf_base.specs.Acts.{Stretch}
 use Rattle.c_nodes.specs.declared.tree.CItem.{CItem}

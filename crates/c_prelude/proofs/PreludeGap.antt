@@ -16,10 +16,10 @@ use Rattle.c_nodes.specs.declared.tree.CType.TheVariants.{Int64}
 use Rattle.c_nodes.specs.declared.tree.CBinary.TheVariants.{Differ, And, Or}
 use Rattle.c_nodes.specs.declared.tree.CExpr.TheVariants.{Variable, Index, Constant, Paren, Binary}
 use Rattle.c_nodes.specs.declared.tree.CStmt.TheVariants.{Assign, Call, If}
-use Rattle.c_semantics.specs.CValues.{Width, W32, W64, CValue, Local, Number, Pointer, fits, truth}
-use Rattle.c_semantics.specs.CState.{Around, Slot, Cells, Leads, Stored, State, slot_of, with_slot, object_at, put_object, declare, closed}
+use Rattle.c_semantics.specs.CValues.{W32, W64, CValue, Local, Number, Pointer, fits, truth}
+use Rattle.c_semantics.specs.CState.{Around, Slot, Cells, Leads, Stored, State, slot_of, with_slot, put_object, declare, closed}
 use Rattle.c_semantics.specs.CMeaning.{reading, Element, Calls, Procedure, written_byte, started, call, on_procedure, calls_of, statement, statements}
-use Rattle.c_prelude.specs.PreludeLaws.{HasPrelude, Does, aged, gap, WritesGap}
+use Rattle.c_prelude.specs.PreludeLaws.{aged, gap, WritesGap}
 use Rattle.c_semantics.proofs.CExprs.{exprs}
 use Rattle.c_semantics.proofs.CRuns.{run_assign, run_call, run_if_not, if_so, run_plain_block}
 use Rattle.c_semantics.proofs.CCalls.{call_going, binds64, calls_putchar, prints}

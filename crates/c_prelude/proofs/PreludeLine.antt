@@ -1,5 +1,5 @@
 -- The loops of the prelude's `lf_trap` that write the digits of the line.
-use Rattle.std.proofs.Common.{◌≡◌, ℕ, zero, suc, ◌+◌, ◌-◌, ◌*◌, ◌/◌, ◌%◌, ◌<◌, ◌≤◌, ◌^◌, Bool, true, false, List, [], ◌∷◌, ◌++◌, length, map, Option, Some, None, codes, cond, refl, sym, ap, subst, ◌∙◌, arith, append_assoc}
+use Rattle.std.proofs.Common.{◌≡◌, ℕ, zero, suc, ◌+◌, ◌-◌, ◌*◌, ◌/◌, ◌%◌, ◌<◌, ◌≤◌, ◌^◌, Bool, true, false, List, [], ◌∷◌, ◌++◌, length, map, Some, None, codes, cond, refl, sym, ap, ◌∙◌, arith, append_assoc}
 use Rattle.std.specs.Prelude.{int_lt, int_le, int_div}
 use Rattle.std.specs.Fmt.{decimal}
 use Rattle.std.proofs.Math.IntN.{ℤ, pos}
@@ -15,7 +15,7 @@ use Rattle.c_nodes.specs.declared.tree.CStmt.{CStmt}
 use Rattle.c_nodes.specs.declared.tree.CBinary.TheVariants.{Add, Multiply, Divide, Remainder, Less, AtMost}
 use Rattle.c_nodes.specs.declared.tree.CExpr.TheVariants.{Variable, Constant, Paren, Binary, ToInt}
 use Rattle.c_nodes.specs.declared.tree.CStmt.TheVariants.{Assign, Call, While}
-use Rattle.c_semantics.specs.CValues.{Local, CValue, Number, Errors, W32, W64, truth, fits, checked, quotient, binary, to_int}
+use Rattle.c_semantics.specs.CValues.{Local, Number, Errors, W32, W64, truth, fits, checked, quotient, binary, to_int}
 use Rattle.c_semantics.specs.CState.{Around, Stored, State}
 use Rattle.c_semantics.specs.CMeaning.{reading, all_given, Element, tested, block, Calls, Doing, clause, statement, calls_of, written_byte}
 use Rattle.c_semantics.proofs.CExprs.{exprs}

@@ -2,7 +2,8 @@
 use Rattle.std.proofs.Common.{◌≡◌, Bool, true, false, ◌&&◌, List, [], ◌∷◌, ◌++◌, refl, ap, ◌∙◌}
 use Rattle.std.specs.List.{list_all}
 use Rattle.c_nodes.specs.declared.tree.CItem.{CItem}
-use Rattle.c_semantics.specs.Linking.{Known, at_start, with_item, is_right_item, are_right, known_behind, has_right_jumps}
+use Rattle.c_semantics.specs.Linking.{Known, at_start, with_item, is_right_item, are_right, known_behind}
+use Rattle.c_semantics.specs.Program.{has_right_jumps}
 use Rattle.c_prelude.specs.Prelude.{prelude_items}
 use Rattle.c_semantics.proofs.LinkingShapes.{links}
 use Rattle.c_semantics.proofs.JumpShapes.{jumping}

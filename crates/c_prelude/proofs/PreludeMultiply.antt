@@ -16,7 +16,7 @@ use Rattle.c_nodes.specs.declared.tree.CExpr.TheVariants.{Variable, Constant, Gr
 use Rattle.c_nodes.specs.declared.tree.CStmt.TheVariants.{Assign, DeclareValue, ReturnValue, If, IfElse}
 use Rattle.c_semantics.specs.CValues.{Width, W32, W64, Local, CValue, Number, fits, truth, greatest64, least64}
 use Rattle.c_semantics.specs.CState.{Around, Cells, Stored, State, declare}
-use Rattle.c_semantics.specs.CMeaning.{reading, Element, block, Calls, Doing, Procedure, Returned, stored_in, call, on_procedure, calls_of, clause, statement, statements}
+use Rattle.c_semantics.specs.CMeaning.{reading, Element, block, Calls, Procedure, Returned, stored_in, call, on_procedure, calls_of, clause, statement, statements}
 use Rattle.c_prelude.specs.PreludeLaws.{HasPrelude, Locates, aged, trapped, trap_turns, Combines}
 use Rattle.c_semantics.proofs.CExprs.{exprs}
 use Rattle.c_semantics.proofs.CRuns.{run_declare_value, run_assign, run_return, run_if_not, if_so, if_then, if_else, run_plain_block, stop_block}

@@ -16,7 +16,7 @@ use Rattle.c_nodes.specs.declared.tree.CType.TheVariants.{Int64, Byte}
 use Rattle.c_nodes.specs.declared.tree.CBinary.TheVariants.{Add, Differ}
 use Rattle.c_nodes.specs.declared.tree.CExpr.TheVariants.{Variable, Index, Constant, Binary}
 use Rattle.c_nodes.specs.declared.tree.CStmt.TheVariants.{Assign, Call, While}
-use Rattle.c_semantics.specs.CValues.{Local, Text, CValue, Number, Pointer, Errors, W32, W64, truth}
+use Rattle.c_semantics.specs.CValues.{Local, Text, Number, Pointer, Errors, W32, W64, truth}
 use Rattle.c_semantics.specs.CState.{Around, Cells, Leads, State, Stored, nth, literal, element}
 use Rattle.c_semantics.specs.CMeaning.{Reading, reading, reading_layer, Element, tested, block, Calls, clause, statement, calls_of, written_byte}
 use Rattle.c_nodes.proofs.ExprInduction.{fold-Variable, fold-Index, fold-Constant, fold-Binary}

@@ -1,11 +1,11 @@
 -- The prelude's `lf_trap`: it writes the text of a trap with its location, and ends the program.
-use Rattle.std.proofs.Common.{◌≡◌, ℕ, suc, ◌+◌, ◌<◌, ◌≤◌, ◌^◌, true, false, List, [], ◌∷◌, ◌++◌, length, map, Option, Some, None, codes, refl, sym, ap, ◌∙◌, arith, append_assoc, append-nil}
+use Rattle.std.proofs.Common.{◌≡◌, ℕ, suc, ◌+◌, ◌<◌, ◌≤◌, ◌^◌, true, false, List, [], ◌∷◌, length, map, Some, None, codes, refl, sym, ap, ◌∙◌, arith, append_assoc, append-nil}
 use Rattle.std.specs.Fmt.{decimal}
 use Rattle.std.proofs.Math.IntN.{ℤ, pos}
 use Rattle.std.proofs.lemmas.Fmt.{length-decimal-le}
 use Rattle.lf_base.specs.Contents.{joined}
 use Rattle.lf_base.specs.Outcome.{Location, Written, Ended}
-use Rattle.lf_base.specs.Acts.{Going, Stopped, Act}
+use Rattle.lf_base.specs.Acts.{Going, Stopped}
 use Rattle.lf_base.specs.Traps.{before_zero, trap_number, trap_name}
 use Rattle.lf_base.specs.declared.trap.Trap.{Trap}
 use Rattle.lf_base.specs.declared.trap.Trap.TheVariants.{IntegerOverflow, DivisionByZero, SubscriptOutOfRange, SubstringOutOfRange, ShapeMismatch, ZeroStep, EndOfFile, LengthLimit, BadCharacterCode}
@@ -18,7 +18,7 @@ use Rattle.c_nodes.specs.declared.tree.CType.TheVariants.{Int64, Byte}
 use Rattle.c_nodes.specs.declared.tree.CBinary.TheVariants.{Add}
 use Rattle.c_nodes.specs.declared.tree.CExpr.TheVariants.{Variable, Constant, Paren, Binary, ToInt, Literal}
 use Rattle.c_nodes.specs.declared.tree.CStmt.TheVariants.{DeclareValue, DeclarePointer, Assign, Call, While}
-use Rattle.c_semantics.specs.CValues.{Width, Local, Text, CValue, Number, Pointer, Errors, W32, W64}
+use Rattle.c_semantics.specs.CValues.{Local, Text, CValue, Number, Pointer, Errors, W32}
 use Rattle.c_semantics.specs.CState.{Around, Cells, Leads, Stored, State, declare}
 use Rattle.c_semantics.specs.CMeaning.{Element, Calls, Procedure, Doing, call, on_procedure, statement, statements, started, calls_of, written_byte}
 use Rattle.c_semantics.specs.CMeaning as meaning
@@ -27,7 +27,7 @@ use Rattle.c_semantics.proofs.CNumbers.{fits32_nat, fits64_nat}
 use Rattle.c_semantics.proofs.CRuns.{run_declare_value, run_declare_pointer, run_assign, run_call, stop_call}
 use Rattle.c_semantics.proofs.CCalls.{calls_fputc, calls_exit, complains, exits, call_stopped, binds64}
 use Rattle.c_semantics.proofs.Numbers.{numbers}
-use Rattle.c_prelude.specs.PreludeLaws.{HasPrelude, Locates, trapped, Traps}
+use Rattle.c_prelude.specs.PreludeLaws.{Locates, trapped, Traps}
 use Rattle.c_prelude.proofs.PreludeCalls.{found, does}
 use Rattle.c_prelude.proofs.PreludeTrap.{is_plain, Shows, shows_all, shows_front, length-before_zero, prefix, trap_state, test_of, turn_of, more, loop_writes}
 use Rattle.c_prelude.proofs.PreludeLine.{scaling, digits_out, top, scaling_runs, digits_run}

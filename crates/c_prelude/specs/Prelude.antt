@@ -1,5 +1,6 @@
--- The prelude: the functions in C that each printed file begins with, as trees. They restate what Fortran asks of
--- integers, characters and their intrinsic procedures (ISO/IEC 1539-1:2018, 10.1.5.2, 13.10.4, 16.9) within 64 bits.
+-- The prelude: the functions in C that each printed file begins with, as trees, behind two static objects that hold the
+-- source and the line of the statement that is executed. They restate what Fortran asks of integers, characters and their
+-- intrinsic procedures (ISO/IEC 1539-1:2018, 10.1.5.2, 13.10.4, 16.9) within 64 bits.
 use Rattle.std.specs.Prelude.{true, List, [], ◌∷◌, codes}
 use Rattle.c_nodes.specs.declared.tree.CType.TheVariants.{Int64, Byte}
 use Rattle.c_nodes.specs.declared.tree.CResult.TheVariants as gives

@@ -1,5 +1,5 @@
 -- Calls of the library and of functions of the program.
-use Rattle.std.proofs.Common.{◌≡◌, ℕ, zero, suc, ◌+◌, ◌<◌, true, false, List, [], ◌∷◌, ◌++◌, Option, Some, None, codes, cond, refl, ap, arith}
+use Rattle.std.proofs.Common.{◌≡◌, ℕ, zero, suc, ◌<◌, true, false, List, [], ◌∷◌, ◌++◌, Option, Some, None, codes, cond, refl, ap, arith}
 use Rattle.std.proofs.Math.IntN.{ℤ, pos}
 use Rattle.lf_base.specs.Outcome.{Written, Outcome, Ended}
 use Rattle.lf_base.specs.Acts.{Act, Going, Stopped, bind, give}

@@ -9,7 +9,7 @@ use Rattle.c_nodes.specs.declared.tree.CExpr.{CExpr}
 use Rattle.c_nodes.specs.declared.tree.CExpr.TheVariants.{Variable, Constant}
 use Rattle.c_nodes.specs.declared.tree.CStmt.{CStmt}
 use Rattle.c_nodes.specs.declared.tree.CStmt.TheVariants.{Declare, DeclareArray, DeclareValue, DeclarePointer, DeclareCall, Assign, AssignCall, Call, Return, ReturnValue, ReturnCall, Goto, Label, Block, While, If, IfElse}
-use Rattle.c_semantics.specs.Linking.{Jumps, no_jump, inner_jumps, lead_in, constant_layer, is_constant, jumps_layer, jumps, all_labels, labels_layer, labels}
+use Rattle.c_semantics.specs.Program.{Jumps, no_jump, inner_jumps, lead_in, constant_layer, is_constant, jumps_layer, jumps, all_labels, labels_layer, labels}
 use Rattle.c_nodes.proofs.ExprInduction as expressions
 use Rattle.c_nodes.proofs.StmtInduction as statements
 

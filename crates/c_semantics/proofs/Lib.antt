@@ -4,6 +4,7 @@ pub mod CMonotone
 pub mod CNumbers
 pub mod CRuns
 pub mod CStmts
+pub mod FreeNames
 pub mod JumpShapes
 pub mod LinkingShapes
 pub mod Numbers

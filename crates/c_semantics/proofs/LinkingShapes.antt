@@ -11,7 +11,8 @@ use Rattle.c_nodes.specs.declared.tree.CExpr.TheVariants.{Variable, Index, Membe
 use Rattle.c_nodes.specs.declared.tree.CStmt.{CStmt}
 use Rattle.c_nodes.specs.declared.tree.CStmt.TheVariants.{Declare, DeclareArray, DeclareValue, DeclarePointer, DeclareCall, Assign, AssignCall, Call, Return, ReturnValue, ReturnCall, Goto, Label, Block, While, If, IfElse}
 use Rattle.c_semantics.specs.Reserved.{is_reserved}
-use Rattle.c_semantics.specs.Linking.{variable_layer, is_variable, zero_layer, is_zero, is_size, Typed, Object, Number, Array, Leads, is_scalar, is_number, takes_value, leads_to, number_if, element_if, address_of, member_of, typed_layer, Scope, type_of_name, type_of, Signature, call_gives, is_void, is_call, is_value, may_assign, Scoping, kept_if, declared_as, initialized, is_block, scoping_layer, scoping, all_do, calls_layer, calls_only}
+use Rattle.c_semantics.specs.Linking.{variable_layer, is_variable, zero_layer, is_zero, is_size, Typed, Object, Number, Array, Leads, is_scalar, is_number, takes_value, leads_to, number_if, element_if, address_of, member_of, typed_layer, Scope, type_of_name, type_of, Signature, call_gives, is_void, is_call, is_value, may_assign, Scoping, kept_if, declared_as, initialized, is_block, scoping_layer, scoping}
+use Rattle.c_semantics.specs.Program.{all_do, calls_layer, calls_only}
 use Rattle.c_nodes.proofs.ExprInduction as expressions
 use Rattle.c_nodes.proofs.StmtInduction as statements
 

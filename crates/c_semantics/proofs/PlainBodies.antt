@@ -7,7 +7,8 @@ use Rattle.c_nodes.specs.declared.tree.CExpr.{CExpr}
 use Rattle.c_nodes.specs.declared.tree.CStmt.{CStmt}
 use Rattle.c_nodes.specs.declared.tree.CStmt.TheVariants.{DeclareValue, DeclareCall, Call, Return, ReturnValue, Block}
 use Rattle.c_nodes.specs.Grammar.{IsOther, other_if, are_last, mark_of, has_last_labels}
-use Rattle.c_semantics.specs.Linking.{are_different, label_behind, lead_in, jumps, all_labels, labels}
+use Rattle.c_semantics.specs.Linking.{are_different}
+use Rattle.c_semantics.specs.Program.{label_behind, lead_in, jumps, all_labels, labels}
 use Rattle.c_nodes.proofs.GrammarShapes.{mark_of-DeclareValue, mark_of-DeclareCall, mark_of-Call, mark_of-Return, mark_of-ReturnValue, mark_of-Block}
 use Rattle.c_semantics.proofs.JumpShapes.{jumps-DeclareValue, jumps-DeclareCall, jumps-Call, jumps-Return, jumps-ReturnValue, jumps-Block, labels-DeclareValue, labels-DeclareCall, labels-Call, labels-Return, labels-ReturnValue, labels-Block}
 

@@ -1,7 +1,8 @@
 -- Which of the small files are programs.
 use Rattle.std.proofs.Common.{◌≡◌, false, [], ◌∷◌, codes, refl}
 use Rattle.std.specs.List.{list_all}
-use Rattle.c_semantics.specs.Linking.{IsProgram, is_right_file, with_defined, are_same_objects, objects_in, has_right_jumps}
+use Rattle.c_semantics.specs.Linking.{is_right_file}
+use Rattle.c_semantics.specs.Program.{IsProgram, with_defined, are_same_objects, objects_in, has_right_jumps}
 use Rattle.c_semantics.specs.SmallFiles.{file, Unlinked, sets_pointer, own_object, keeps_object, empty_array, call_into_element, declares, declares_library, low_name, static_twice, turns, jumps, structures, stops_early, zeros, unused_object, shares, sets, leads_nowhere, jumps_past_array, label_twice, no_member, no_structure, number_as_structure, undefined_object, other_type, defines_again}
 use Rattle.c_semantics.proofs.LinkingShapes.{links, callings}
 use Rattle.c_semantics.proofs.JumpShapes.{jumping}

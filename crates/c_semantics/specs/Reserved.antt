@@ -1,6 +1,6 @@
 -- The names that are no program's (ISO/IEC 9899:1999): the keywords (6.4.1), those that the headers `stdint.h` (7.18),
 -- `stdio.h` (7.19) and `stdlib.h` (7.20) define, and those that begin with an underscore (7.1.3).
-use Rattle.std.specs.Prelude.{ℕ, Bool, false, ◌||◌, ◌==◌, List, [], ◌∷◌, ◌++◌, codes}
+use Rattle.std.specs.Prelude.{ℕ, Bool, true, false, not, nat_eq, ◌||◌, ◌&&◌, ◌==◌, List, [], ◌∷◌, ◌++◌, codes}
 use Rattle.std.specs.List.{list_any}
 use Rattle.std.specs.Str.{bytes_eq}
 
@@ -44,3 +44,14 @@ begins_low (first ∷ rest) = first == 95
 
 abbrev pub is_reserved : List ℕ → Bool
 is_reserved name = begins_low name || list_any (bytes_eq name) reserved
+
+-- whether a name begins with these bytes
+abbrev pub begins_with : List ℕ → List ℕ → Bool
+begins_with [] name = true
+begins_with (b ∷ front) [] = false
+begins_with (b ∷ front) (c ∷ name) = nat_eq b c && begins_with front name
+
+-- whether no reserved name begins with these bytes
+abbrev pub is_free_front : List ℕ → Bool
+is_free_front [] = false
+is_free_front (first ∷ front) = not (first == 95) && not (list_any (begins_with (first ∷ front)) reserved)

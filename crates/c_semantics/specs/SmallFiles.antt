@@ -13,11 +13,11 @@ use Rattle.c_nodes.specs.declared.tree.CExpr.TheVariants.{Variable, Index, Membe
 use Rattle.c_nodes.specs.declared.tree.CStmt.{CStmt}
 use Rattle.c_nodes.specs.declared.tree.CStmt.TheVariants.{Declare, DeclareArray, DeclareValue, DeclarePointer, Assign, AssignCall, Call, Return, ReturnValue, Goto, Label, Block, While, If, IfElse}
 use Rattle.c_nodes.specs.declared.tree.CItem.{CItem}
-use Rattle.c_nodes.specs.declared.tree.CItem.TheVariants.{Struct, Object, StaticObject, StaticPointer, Prototype, Function}
+use Rattle.c_nodes.specs.declared.tree.CItem.TheVariants.{Object, StaticObject, StaticPointer, Prototype, Function}
 use Rattle.c_nodes.specs.declared.tree.CFile.{CFile}
 use Rattle.c_nodes.specs.ShownFile.{main, ends, p_type, x_of, c_of}
 use Rattle.c_semantics.specs.CMeaning.{CMeaning}
-use Rattle.c_semantics.specs.Linking.{IsProgram}
+use Rattle.c_semantics.specs.Program.{IsProgram}
 
 abbrev pub file : List CItem → CFile
 file items = record { items = items }

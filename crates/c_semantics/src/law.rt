@@ -1,10 +1,11 @@
 //! Laws of the definitions: each is the contract of a function that does nothing.
 
-ghost use Rattle.std.specs.Prelude.{ℕ, List, [], ◌∷◌, codes};
+ghost use Rattle.std.specs.Prelude.{◌≡◌, ℕ, ◌≤◌, ◌==◌, IsTrue, true, false, List, [], ◌∷◌, ◌++◌, codes};
 ghost use Rattle.lf_base.specs.Near.{IsMonotone};
 ghost use Rattle.c_nodes.specs.declared.tree.CFile.{CFile};
 ghost use Rattle.c_semantics.specs.CMeaning.{CMeaning};
-ghost use Rattle.c_semantics.specs.Linking.{IsProgram};
+ghost use Rattle.c_semantics.specs.Program.{IsProgram};
+ghost use Rattle.c_semantics.specs.Reserved.{is_reserved, is_free_front};
 ghost use Rattle.c_semantics.specs.SmallFiles.{returns_number, returns_nothing, returns_too_much, pointer_in_block, pointer_after_block, pointer_after_call, sets_pointer, unset_pointer, own_object, keeps_object, empty_array, call_into_element, declares, declares_library, low_name, static_twice, Unlinked, leads_nowhere, jumps_past_array, label_twice, no_member, no_structure, number_as_structure, undefined_object, unused_object, other_type, defines_again, Writes, IsUndefined, IsCut, EndsWith, file, turns, jumps, structures, wraps, stops_early, zeros, shares, sets, forever, leaves, overflow, int_overflow, by_zero, least_by_minus_one, int32_cast, int_cast, int32_store, unset_read, unset_copy, outside, pointer_outside, outside_member, no_elements, literal_write};
 
 /// Larger bounds keep the end of a C program with its output and its status, and never shorten what it
@@ -85,4 +86,16 @@ pub fn no_programs()
     ensures reserved_function { Unlinked (file declares_library ∷ []) }
     ensures low_name { Unlinked (file low_name ∷ []) }
     ensures static_twice { Unlinked (file static_twice ∷ []) }
+{}
+
+/// Names that are not reserved: those that begin as no reserved name does, as `lf_`, `v_`, `p_`, `l_` and `f_`, and those
+/// whose second byte is a digit.
+pub fn free_names()
+    ensures front { (front rest : List ℕ) → is_free_front front ≡ true → is_reserved (front ++ rest) ≡ false }
+    ensures numbered { (letter digit : ℕ) (rest : List ℕ) → (letter == 95) ≡ false → 48 ≤ digit → digit ≤ 57 → is_reserved (letter ∷ digit ∷ rest) ≡ false }
+    ensures path { IsTrue (is_free_front (codes "lf_")) }
+    ensures variable { IsTrue (is_free_front (codes "v_")) }
+    ensures dummy { IsTrue (is_free_front (codes "p_")) }
+    ensures length { IsTrue (is_free_front (codes "l_")) }
+    ensures component { IsTrue (is_free_front (codes "f_")) }
 {}

@@ -10,7 +10,7 @@ use Rattle.ast_nodes.specs.declared.file.File.{File}
 use Rattle.c_nodes.specs.declared.tree.CFile.{CFile}
 use Rattle.c_semantics.specs.CMeaning.{CMeaning}
 use Rattle.c_prelude.specs.PreludeFile.{Spells}
-use Rattle.c_semantics.specs.Linking.{IsProgram}
+use Rattle.c_semantics.specs.Program.{IsProgram}
 use Rattle.ff_lexer.specs.Statements.{Spelled}
 use Rattle.ff_lexer.specs.Told.{StatementsOf}
 use Rattle.ff_parser.specs.Files.{IsFile}

@@ -14,7 +14,8 @@ use Rattle.c_nodes.specs.declared.tree.CExpr.TheVariants.{Variable, Constant, Ad
 use Rattle.c_nodes.specs.declared.tree.CItem.TheVariants.{Prototype, Function}
 use Rattle.c_nodes.specs.declared.tree.CStmt.{CStmt}
 use Rattle.c_nodes.specs.declared.tree.CStmt.TheVariants.{DeclareCall, Assign, Call, Return, ReturnValue, Block}
-use Rattle.c_semantics.specs.Linking.{Typed, Object, Number, Leads, is_number, Ill, Entry, Scope, first_or, is_declared, type_of, ANumber, APointer, Signature, library, Known, at_start, signature_of, address_of, given_by, call_gives, is_call, is_value, kept_if, Scoping, declared, initialized, on_scope, in_turn, is_right, may_assign, scoping, signature, is_right_body, are_right, known_behind, is_right_file, functions_of, has_name, are_distinct, shown_in, are_agreed, calls_only, item_calls_only, is_defined, IsProgram}
+use Rattle.c_semantics.specs.Linking.{Typed, Object, Number, Leads, is_number, Ill, Entry, Scope, first_or, is_declared, type_of, ANumber, APointer, Signature, library, Known, at_start, signature_of, address_of, given_by, call_gives, is_call, is_value, kept_if, Scoping, declared, initialized, on_scope, in_turn, is_right, may_assign, scoping, signature, is_right_body, are_right, known_behind, is_right_file, has_name}
+use Rattle.c_semantics.specs.Program.{functions_of, are_distinct, shown_in, are_agreed, calls_only, item_calls_only, is_defined, IsProgram}
 use Rattle.c_semantics.specs.Reserved.{is_reserved}
 use Rattle.c_prelude.specs.Prelude.{prelude_items}
 use Rattle.c_semantics.proofs.LinkingShapes.{links, callings, type_of-Variable, type_of-Constant, type_of-Address, type_of-Literal, scoping-DeclareValue, scoping-DeclareCall, scoping-Assign, scoping-Call, scoping-Return, scoping-ReturnValue, scoping-Block}

@@ -9,7 +9,7 @@ use Rattle.c_nodes.specs.declared.tree.CExpr.TheVariants.{Variable, Constant, Ad
 use Rattle.c_nodes.specs.declared.tree.CStmt.{CStmt}
 use Rattle.c_nodes.specs.declared.tree.CStmt.TheVariants.{Assign, Return}
 use Rattle.c_nodes.specs.Grammar.{has_last_labels}
-use Rattle.c_semantics.specs.Linking.{has_right_jumps}
+use Rattle.c_semantics.specs.Program.{has_right_jumps}
 use Rattle.c_prelude.specs.Prelude.{prelude_items}
 use Rattle.c_prelude.proofs.PreludeLinked.{prelude_jumps}
 use Rattle.c_nodes.proofs.GrammarShapes.{mark_of-Assign}

@@ -1,5 +1,5 @@
 -- The words of a command are texts, so what they are made of are bytes; and a source's name has at most 255 of them.
-use Rattle.std.proofs.Common.{◌≡◌, ℕ, ◌<◌, ◌≤◌, Bool, true, false, List, [], ◌∷◌, ◌++◌, ◌+◌, ◌/◌, ◌%◌, length, map, Option, Some, None, string_bytes, cond, refl, subst, arith}
+use Rattle.std.proofs.Common.{◌≡◌, ℕ, ◌<◌, ◌≤◌, Bool, true, false, List, [], ◌∷◌, ◌++◌, ◌+◌, ◌/◌, ◌%◌, length, map, Option, Some, None, string_bytes, cond, refl, ap, subst, arith}
 use Rattle.std.specs.Prelude.{◌&&◌, ltb}
 use Rattle.std.specs.declared.string.String.{String}
 use Rattle.std.specs.List.{AllByRecursion}
@@ -55,6 +55,10 @@ pub record IsName (file : List ℕ) : Type 0 where
   pub short : length file ≤ 255
   pub bytes : AreBytes file
 
+files_in : Option CommandText → List (List ℕ)
+files_in None = []
+files_in (Some c) = c.2
+
 short_name : (file : List ℕ) → is_source_name file ≡ true → length file ≤ 255
 short_name file h = grind (arith, nat_tests)
 
@@ -65,7 +69,7 @@ named (a ∷ b ∷ c ∷ more) h verb file e = absurd (cc)
 named (a ∷ b ∷ []) h verb file e = by_verb (verb_of a) e
   where
     by_name : (v : Verb) (t : Bool) → is_source_name b ≡ t → cond {A = Option CommandText} t (Some (v, 0, b ∷ [])) None ≡ Some (verb, 0, file ∷ []) → IsName file
-    by_name v true p q = let same : b ≡ file = cc in record { short = subst (λ f. length f ≤ 255) same (short_name b p); bytes = subst AreBytes same h.1.0 }
+    by_name v true p q = let same : b ≡ file = cc (ap files_in q) in record { short = subst (λ f. length f ≤ 255) same (short_name b p); bytes = subst AreBytes same h.1.0 }
     by_name v false p q = absurd (cc)
 
     by_verb : (o : Option Verb) → with_file o b ≡ Some (verb, 0, file ∷ []) → IsName file

@@ -5,6 +5,7 @@ pub mod PreludeGap
 pub mod PreludeInts
 pub mod PreludeLine
 pub mod PreludeLinked
+pub mod PreludeLocation
 pub mod PreludeMultiply
 pub mod PreludeProducts
 pub mod PreludeTexts

@@ -15,9 +15,12 @@ use Rattle.lf_base.specs.declared.trap.Trap.TheVariants.{IntegerOverflow}
 use Rattle.c_nodes.specs.declared.tree.CItem.{CItem}
 use Rattle.c_nodes.specs.declared.tree.CFile.{CFile}
 use Rattle.c_nodes.specs.declared.tree.CType.TheVariants.{Int64}
-use Rattle.c_semantics.specs.CValues.{Width, W32, W64, Local, Text, CValue, Number, Pointer, fits}
-use Rattle.c_semantics.specs.CState.{Cells, Leads, Around, State, global_of, object_at, put_object}
-use Rattle.c_semantics.specs.CMeaning.{items_of, calls_of}
+use Rattle.c_nodes.specs.declared.tree.CExpr.TheVariants.{Variable, Constant, Literal}
+use Rattle.c_nodes.specs.declared.tree.CStmt.{CStmt}
+use Rattle.c_nodes.specs.declared.tree.CStmt.TheVariants.{Assign}
+use Rattle.c_semantics.specs.CValues.{Width, W32, W64, Base, Local, Text, Outside, CValue, Number, Pointer, fits}
+use Rattle.c_semantics.specs.CState.{Cells, Leads, Around, State, find_name, global_of, object_at, put_object}
+use Rattle.c_semantics.specs.CMeaning.{Calls, items_of, calls_of, statements}
 use Rattle.c_prelude.specs.Prelude.{prelude_items}
 
 -- The file of this number begins with the prelude.
@@ -98,3 +101,29 @@ WritesGap = (number : ℕ) (is_array : Bool) (g : ℤ) (cells : List (Option ℤ
 pub record AtEnd (width : Width) (last behind : ℤ) : Type 0 where
   pub value : fits width last ≡ true
   pub trap : fits width behind ≡ false
+
+-- The objects of the file's prelude are there, whatever they hold.
+pub record HasLocation (file : ℕ) (around : Around) : Type 0 where
+  pub to : Option (Base × ℕ)
+  pub last : Option ℤ
+  pub name : global_of (Some file) (codes "lf_name") around.globals ≡ Some (Leads to)
+  pub line : global_of (Some file) (codes "lf_line") around.globals ≡ Some (Cells Int64 false (last ∷ []))
+
+-- the two statements that tell a trap its location
+abbrev pub location_set : Location → List CStmt
+location_set location = Assign (Variable (codes "lf_name")) (Literal location.source) ∷ Assign (Variable (codes "lf_line")) (Constant location.line) ∷ []
+
+abbrev pub with_name : List ℕ → State → State
+with_name source s = put_object (Outside (Some s.here.file) (codes "lf_name")) (Leads (Some (Text source, 0))) s
+
+abbrev pub with_location : Location → State → State
+with_location location s = put_object (Outside (Some s.here.file) (codes "lf_line")) (Cells Int64 false (Some (pos location.line) ∷ [])) (with_name location.source s)
+
+-- In a function that declares neither name, the two statements make the objects name the location, and change nothing
+-- else.
+pub record SetsLocation (location : Location) (n : ℕ) (calls : Calls) (s : State) (w : Written) : Type 0 where
+  pub runs : statements n calls (location_set location) s w ≡ Going None (with_location location s) w
+  pub locates : Locates s.here.file location (with_location location s).around
+
+abbrev pub SetsLocations : Type 0
+SetsLocations = (location : Location) → length location.source < 2 ^ 32 → AllByRecursion (λ b. b < 256) location.source → location.line < 2 ^ 32 → (n : ℕ) (calls : Calls) (s : State) (w : Written) → HasLocation s.here.file s.around → find_name (codes "lf_name") s.here.names ≡ None → find_name (codes "lf_line") s.here.names ≡ None → SetsLocation location n calls s w

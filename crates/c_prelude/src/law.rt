@@ -17,7 +17,7 @@ ghost use Rattle.c_semantics.specs.Linking.{at_start, are_right, known_behind};
 ghost use Rattle.c_semantics.specs.Program.{has_right_jumps};
 ghost use Rattle.c_prelude.specs.Prelude.{prelude_items};
 ghost use Rattle.c_prelude.specs.PreludeFile.{file_with, IsGrammatical};
-ghost use Rattle.c_prelude.specs.PreludeLaws.{Traps, TrapsOver, Fits, Combines, WritesGap, WritesInt, trapped, AtEnd, gap};
+ghost use Rattle.c_prelude.specs.PreludeLaws.{Traps, TrapsOver, Fits, Combines, WritesGap, WritesInt, SetsLocations, trapped, AtEnd, gap};
 ghost use Rattle.c_prelude.specs.PreludeText.{prelude_text};
 
 /// The prelude with external functions behind it is a file, and its text is that of the prelude with theirs
@@ -84,4 +84,9 @@ pub fn lf_int_writes()
     ensures zero { signed_decimal (pos 0) ≡ codes "0" }
     ensures greatest { signed_decimal greatest64 ≡ codes "9223372036854775807" }
     ensures least { signed_decimal least64 ≡ codes "-9223372036854775808" }
+{}
+
+/// Two assignments make `lf_name` and `lf_line` name the source and the line that a trap tells, and change nothing else.
+pub fn location_is_set()
+    ensures { SetsLocations }
 {}

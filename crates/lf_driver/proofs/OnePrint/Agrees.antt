@@ -3,7 +3,7 @@ use Rattle.std.proofs.Common.{◌≡◌, ℕ, suc, ◌+◌, ◌^◌, ◌<◌, �
 use Rattle.std.specs.Fmt.{signed_decimal}
 use Rattle.std.proofs.Math.IntN.{ℤ, pos}
 use Rattle.std.proofs.lemmas.Int.{ints}
-use Rattle.lf_base.specs.Outcome.{Location, Written, Fault, Outcome, Ended, Cut, Wrong, IsBegun, Extends, KeepsLocation, Never, written}
+use Rattle.lf_base.specs.Outcome.{Location, Written, Fault, Outcome, Ended, Wrong, IsBegun, Extends, KeepsLocation, Never, written}
 use Rattle.lf_base.specs.Acts.{Going, Stopped, bind, give, print, outcome_of}
 use Rattle.lf_base.specs.Near.{IsNearBy, slack, Near, Agree, IsMonotone}
 use Rattle.lf_base.proofs.Links.{one_link}

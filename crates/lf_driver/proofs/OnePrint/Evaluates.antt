@@ -2,24 +2,20 @@
 use Rattle.std.proofs.Common.{◌≡◌, ℕ, suc, ◌+◌, ◌≤◌, Bool, true, false, List, [], ◌∷◌, ◌++◌, length, map, Option, Some, None, codes, cond, refl, sym, ap, subst, ◌∙◌, arith, length-append, append_assoc}
 use Rattle.std.proofs.Math.IntN.{ℤ, pos}
 use Rattle.std.proofs.lemmas.Int.{ints}
-use Rattle.lf_base.specs.Outcome.{Written, Outcome, Undefined}
-use Rattle.lf_base.specs.Acts.{Stretch, Going, Stopped, then_do, next_or, bind, change, give, given}
-use Rattle.lf_base.proofs.Runs.{order_next, order_stopped, bind_stopped}
+use Rattle.lf_base.specs.Outcome.{Written}
+use Rattle.lf_base.specs.Acts.{Stretch, Going, Stopped}
+use Rattle.lf_base.proofs.Runs.{order_next, order_stopped}
 use Rattle.c_nodes.specs.declared.tree.CFile.{CFile}
 use Rattle.c_nodes.specs.declared.tree.CStmt.{CStmt}
-use Rattle.lf_base.specs.declared.name.Name.{Name}
-use Rattle.c_nodes.specs.declared.tree.CType.{CType}
 use Rattle.c_nodes.specs.declared.tree.CExpr.{CExpr}
 use Rattle.c_nodes.specs.declared.tree.CType.TheVariants.{Int64}
 use Rattle.c_nodes.specs.declared.tree.CExpr.TheVariants.{Constant}
-use Rattle.c_nodes.specs.declared.tree.CStmt.TheVariants.{DeclareCall}
-use Rattle.c_semantics.specs.CValues.{Width, W32, W64, Local, CValue, Number, fits}
+use Rattle.c_semantics.specs.CValues.{Width, W32, W64, Local, Number, fits}
 use Rattle.c_semantics.specs.CState.{Around, Frame, State, read_from}
-use Rattle.c_semantics.specs.CMeaning.{reading, variable_value, Element, stored_in, begin_object, all_given, answer, answered, initialize, Flow, Doing, Calls, calls_of, statement, statements}
+use Rattle.c_semantics.specs.CMeaning.{reading, variable_value, Element, stored_in, begin_object, all_given, Flow, Doing, Calls, calls_of, statement, statements}
 use Rattle.c_prelude.specs.PreludeLaws.{HasPrelude, overflows, value_or_overflow, Combines}
 use Rattle.c_semantics.proofs.CExprs.{exprs}
-use Rattle.c_semantics.proofs.CRuns.{run_declare_value, run_declare_call, stop_answer}
-use Rattle.c_semantics.proofs.CStmts.{does-DeclareCall}
+use Rattle.c_semantics.proofs.CRuns.{run_declare_value, run_declare_call}
 use Rattle.c_prelude.proofs.PreludeArithmetic.{add_law, fit_law}
 use Rattle.c_prelude.proofs.PreludeMultiply.{sub_law, mul_law}
 use Rattle.lf_driver.specs.declared.one_print.built.Operator.{Operator}

@@ -7,8 +7,8 @@ use Rattle.lf_base.specs.Files.{Files}
 use Rattle.ast_nodes.specs.Text.{ast_text}
 use Rattle.lf_driver.specs.declared.command.Verb.{Verb}
 use Rattle.lf_driver.specs.declared.command.Verb.TheVariants.{Compile, Ast}
-use Rattle.lf_driver.specs.Answers.{OfCommand, Halts, IsUntouched, IsUnread, IsUnwritten, IsCutShort, IsBehind, Succeeds, StopsAt, FailsToRead, FailsToWrite, WantsMemory, ComesTo, Answered, Quiet, Counting, status_by, IsExact, IsCounted}
-use Rattle.lf_driver.specs.Call.{Stored, Held, Call, IsTried, Tries}
+use Rattle.lf_driver.specs.Answers.{OfCommand, Halts, IsUntouched, IsBehind, Succeeds, StopsAt, FailsToRead, FailsToWrite, WantsMemory, ComesTo, Answered, Quiet, Counting, status_by, IsExact, IsCounted}
+use Rattle.lf_driver.specs.Call.{Stored, Held, Call, IsTried, Tries, Tells}
 use Rattle.lf_driver.specs.Refusal.{Refusal}
 use Rattle.lf_driver.specs.Refusal as refusal
 use Rattle.lf_driver.specs.Verdict.{Refuses, Shown, Told, AreWritten, of_left, of_command, written, verdict}
@@ -150,3 +150,9 @@ counted (suc (suc (suc (suc zero)))) c (inr h) = counted_still 4 c (comes_still 
 counted (suc (suc (suc (suc (suc zero))))) c (inl h) = counted_still 5 c (by_command (words_of c.words) (WantsMemory c) (Still c) h.0 (wants_still c)) (λ l. (omega arith, omega arith))
 counted (suc (suc (suc (suc (suc zero))))) c (inr h) = counted_still 5 c (comes_still c h.0 h.1) (λ l. (omega arith, omega arith))
 counted (suc (suc (suc (suc (suc (suc status)))))) c h = absurd h
+
+-- a text that was tried on a sink whose count does not rise
+pub stands : (old new : Held) (text : List ℕ) → Tries old new text → new.faults ≡ old.faults → old.faults < 2 ^ 64 - 1 → Tells old new text ⊎ IsTried (Err put.Memory) old new text
+stands old new text (Ok u, k) same some = inl k
+stands old new text (Err put.Memory, k) same some = inr k
+stands old new text (Err put.Failed, k) same some = absurd (not_risen old.faults new.faults some same k.counts.cause)

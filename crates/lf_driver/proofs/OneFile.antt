@@ -1,5 +1,5 @@
 -- A list of one file ends at that file, with none before it.
-use Rattle.std.proofs.Common.{◌≡◌, ℕ, zero, suc, ◌<◌, List, [], ◌∷◌, ◌++◌, Option, Some, None, inl, inr, sym, ap, subst, ◌∙◌, arith}
+use Rattle.std.proofs.Common.{◌≡◌, ℕ, zero, suc, ◌<◌, List, [], ◌∷◌, ◌++◌, Option, Some, inl, inr, ap, subst, ◌∙◌, arith}
 use Rattle.lf_driver.specs.declared.command.Verb.{Verb}
 use Rattle.lf_driver.specs.declared.command.Verb.TheVariants.{Compile, Ast}
 use Rattle.lf_driver.specs.Answers.{OfCommand, Halts, IsUntouched, IsUnread, IsUnwritten, IsCutShort, IsBehind, StopsAt, FailsToRead, FailsToWrite, WantsMemory, ComesTo, Answered}

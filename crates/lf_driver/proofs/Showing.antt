@@ -1,6 +1,5 @@
 -- What comes of a file whose tree is printed.
-use Rattle.std.proofs.Common.{◌≡◌, ℕ, List, [], Option, Some, None, Ok, Err, inl, inr, ap, subst, ◌∙◌}
-use Rattle.std.specs.FinMap.{get}
+use Rattle.std.proofs.Common.{◌≡◌, ℕ, List, Option, Some, None, Ok, Err, inl, inr, ap, subst, ◌∙◌}
 use denote.Ref.{Bor}
 use Rattle.lf_base.specs.declared.rule.Rule.{Rule}
 use Rattle.lf_base.specs.declared.rule.Rule.TheVariants.{E108}

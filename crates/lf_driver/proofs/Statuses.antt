@@ -10,7 +10,7 @@ use Rattle.lf_driver.specs.declared.command.Verb.{Verb}
 use Rattle.lf_driver.specs.declared.command.Verb.TheVariants.{Compile, Ast}
 use Rattle.lf_driver.specs.declared.outcome.Answer.{Answer}
 use Rattle.lf_driver.specs.declared.outcome.Answer.TheVariants.{Done, Usage, Absent, Refused, ReadFault, WriteFault, Memory}
-use Rattle.lf_driver.specs.Answers.{OfCommand, Halts, IsUntouched, IsUnread, IsUnwritten, IsCutShort, IsCompiled, Succeeds, StopsAt, FailsToRead, FailsToWrite, WantsMemory, ComesTo, Answered}
+use Rattle.lf_driver.specs.Answers.{OfCommand, Halts, IsUntouched, IsUnread, IsUnwritten, IsCutShort, Succeeds, StopsAt, FailsToRead, FailsToWrite, WantsMemory, ComesTo, Answered}
 use Rattle.lf_driver.specs.Call.{Stored, Held, Call, Tells, TellsInstead, stored, held}
 use Rattle.lf_driver.specs.Compile.{Compiles}
 use Rattle.lf_driver.specs.Ends.{status_of, text_of, Does, Performs, Announces, Reports}
@@ -18,7 +18,7 @@ use Rattle.lf_driver.specs.Known.{nothing}
 use Rattle.lf_driver.specs.Refusal.{Refusal, refusal_text, write_fault_text, memory_text}
 use Rattle.lf_driver.specs.Refusal as refusal
 use Rattle.lf_driver.specs.Show.{FileShows}
-use Rattle.lf_driver.specs.Verdict.{Verdict, Refuses, Shown, Step, Stops, Told, AreWritten, of_left, of_shown, of_files, of_command, step, then_more, left_by, verdict}
+use Rattle.lf_driver.specs.Verdict.{Verdict, Refuses, Shown, Stops, Told, AreWritten, of_left, of_shown, of_files, of_command, step, then_more, left_by, verdict}
 use Rattle.lf_driver.specs.Words.{CommandText, words_of}
 use Rattle.lf_driver.proofs.Written.{written_one}
 

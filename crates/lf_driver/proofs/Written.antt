@@ -1,23 +1,20 @@
 -- A source that is compiled writes its C file: nothing that is built holds a second unit of one name.
 use Rattle.std.proofs.Common.{◌≡◌, ℕ, Bool, true, false, List, [], ◌∷◌, Option, Some, None, Ok, Err, refl, sym, ap, ◌∙◌}
 use Rattle.std.specs.Prelude.{if◌then◌else◌, ◌&&◌}
-use Rattle.std.specs.FinMap.{get, insert}
+use Rattle.std.specs.FinMap.{get}
 use Rattle.std.specs.List.{list_all, list_any}
 use Rattle.lf_base.specs.Files.{Files}
 use Rattle.ast_nodes.specs.declared.declaration.Decl.{Decl}
-use Rattle.ast_nodes.specs.declared.file.File.{File}
 use Rattle.ast_nodes.specs.declared.file.Procedure.{Procedure}
 use Rattle.ast_nodes.specs.declared.file.Unit as program_unit
 use Rattle.ast_nodes.specs.declared.file.Unit.TheVariants.{Program, Module}
 use Rattle.ast_nodes.specs.declared.statement.Statement.{Statement}
-use Rattle.c_nodes.specs.Text.{file_text}
 use Rattle.lf_driver.specs.Compile.{Compiles}
-use Rattle.lf_driver.specs.Known.{Known, nothing, with_units, second_line}
+use Rattle.lf_driver.specs.Known.{nothing, with_units, second_line}
 use Rattle.lf_driver.specs.OnePrint.Built.{Building, is_name_byte, is_print, seen, line_seen, value_seen, line_behind, ended, printing, body_in, declared_in, unit_in, units_in, program_in}
 use Rattle.lf_driver.specs.OnePrint.Built as built
-use Rattle.lf_driver.specs.OnePrint.Lowered.{c_file}
 use Rattle.lf_driver.specs.OnePrint.Source.{Tree, Source}
-use Rattle.lf_driver.specs.Verdict.{Step, Writes, Left, c_name, unless_second, step_of_built, step_of_tree, step, then_more, left_by, AreWritten}
+use Rattle.lf_driver.specs.Verdict.{Writes, c_name, unless_second, step_of_built, step_of_tree, step, then_more, left_by, AreWritten}
 
 -- Nothing is built of a file with a unit behind its first one.
 abbrev Fails : Building → Type 0

@@ -10,7 +10,7 @@ use Rattle.ast_nodes.specs.declared.file.File.{File}
 use Rattle.ast_nodes.specs.Text.{ast_text}
 use Rattle.lf_driver.specs.declared.command.Verb.{Verb}
 use Rattle.lf_driver.specs.declared.command.Verb.TheVariants.{Compile, Ast}
-use Rattle.lf_driver.specs.Call.{Stored, Held, Call, Tries, Tells, TellsInstead}
+use Rattle.lf_driver.specs.Call.{Stored, Call, Tries, Tells, TellsInstead}
 use Rattle.lf_driver.specs.Refusal.{Refusal, refusal_text, read_fault_text, write_fault_text, memory_text}
 use Rattle.lf_driver.specs.Refusal as refusal
 use Rattle.lf_driver.specs.Verdict.{Verdict, Refuses, Compiled, Shown, Told, AreWritten, c_name, verdict}

@@ -1,5 +1,5 @@
 -- What the objects of a call tell, before it and behind it.
-use Rattle.std.specs.Prelude.{◌≡◌, ℕ, List, Option, Result, Ok, Err}
+use Rattle.std.specs.Prelude.{ℕ, List, Option, Result, Ok, Err}
 use Rattle.lf_base.specs.declared.fault.PutFault.{PutFault}
 use Rattle.lf_base.specs.Files.{Files}
 use Rattle.lf_base.specs.Puts.{Puts, Causes}

@@ -11,7 +11,7 @@ use Rattle.lf_driver.specs.declared.outcome.Answer.{Answer}
 use Rattle.lf_driver.specs.declared.outcome.Answer.TheVariants as outcome
 use Rattle.lf_driver.specs.Front.{Parsed, front_of}
 use Rattle.lf_driver.specs.Refusal as refusal
-use Rattle.lf_driver.specs.Verdict.{Verdict, Refuses, Shown, Told, of_tree, of_shown}
+use Rattle.lf_driver.specs.Verdict.{Refuses, Shown, Told, of_tree, of_shown}
 
 -- The text of the tree of a source was answered, or the first fault.
 abbrev pub GivesTree : Result (List ℕ) SyntaxFault → Parsed → Type 0

@@ -71,7 +71,15 @@ pub fn lf_main<S: Store, I: Source, O: Sink, E: Sink>(
     out: &mut O,
     err: &mut E,
 ) -> u8
-    ensures call { Promises result (record { words = map string_bytes words.now; store = stored (S.files store.old) (S.pending store.old) (S.contents store.old) (S.read_faults store.old) (S.Sink.faults store.old); store' = stored (S.files store.new) (S.pending store.new) (S.contents store.new) (S.read_faults store.new) (S.Sink.faults store.new); out = held (O.contents out.old) (O.faults out.old); out' = held (O.contents out.new) (O.faults out.new); err = held (E.contents err.old) (E.faults err.old); err' = held (E.contents err.new) (E.faults err.new) }) }
+    ensures call { Promises result (record {
+      words = map string_bytes words.now;
+      store = stored (S.files store.old) (S.pending store.old) (S.contents store.old) (S.read_faults store.old) (S.Sink.faults store.old);
+      store' = stored (S.files store.new) (S.pending store.new) (S.contents store.new) (S.read_faults store.new) (S.Sink.faults store.new);
+      out = held (O.contents out.old) (O.faults out.old);
+      out' = held (O.contents out.new) (O.faults out.new);
+      err = held (E.contents err.old) (E.faults err.old);
+      err' = held (E.contents err.new) (E.faults err.new);
+    }) }
     ensures usage { words_of (map string_bytes words.now) ≡ None → store.new ≡ store.old }
     ensures out { shows (words_of (map string_bytes words.now)) ≡ false → out.new ≡ out.old }
     ensures input { input.new ≡ input.old }

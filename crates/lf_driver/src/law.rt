@@ -1,12 +1,13 @@
 //! Laws of the definitions: each is the contract of a function that does nothing.
 
-ghost use Rattle.std.specs.Prelude.{◌≡◌, [], ◌∷◌, ℕ, ◌<◌, ◌^◌, List, Some, length};
+ghost use Rattle.std.specs.Prelude.{◌≡◌, ◌⊎◌, [], ◌∷◌, ℕ, ◌-◌, ◌<◌, ◌^◌, List, Some, Err, length};
+ghost use Rattle.lf_base.specs.declared.fault.PutFault.{PutFault};
 ghost use Rattle.lf_base.specs.Near.{Agree};
 ghost use Rattle.lf_base.specs.Outcome.{Location};
 ghost use Rattle.c_semantics.specs.CMeaning.{CMeaning};
 ghost use Rattle.lf_driver.specs.declared.command.Verb.{Verb};
 ghost use Rattle.lf_driver.specs.Answers.{Answered};
-ghost use Rattle.lf_driver.specs.Call.{Call};
+ghost use Rattle.lf_driver.specs.Call.{Call, Held, IsTried, Tells, Tries};
 ghost use Rattle.lf_driver.specs.OnePrint.Fortran.{FortranMeaning, IsSmall};
 ghost use Rattle.lf_driver.specs.OnePrint.Lowered.{count, lowered_file};
 ghost use Rattle.lf_driver.specs.OnePrint.Source.{Source, IsLocation};
@@ -21,4 +22,9 @@ pub fn c_file_agrees()
 /// Where the words name one file, each status but 0 leaves the files of the store as they were.
 pub fn files_stay()
     ensures { (status : ℕ) (c : Call) (verb : Verb) (file : List ℕ) → words_of c.words ≡ Some (verb, 0, file ∷ []) → Answered status c → 0 < status → c.store'.files ≡ c.store.files }
+{}
+
+/// A text that was tried on a sink that does not fail stands whole, or the sink wanted memory.
+pub fn texts_stand()
+    ensures { (old new : Held) (text : List ℕ) → Tries old new text → new.faults ≡ old.faults → old.faults < 2 ^ 64 - 1 → Tells old new text ⊎ IsTried (Err PutFault.Memory) old new text }
 {}

@@ -55,9 +55,13 @@ pub record IsName (file : List ℕ) : Type 0 where
   pub short : length file ≤ 255
   pub bytes : AreBytes file
 
-files_in : Option CommandText → List (List ℕ)
-files_in None = []
-files_in (Some c) = c.2
+first_of : List (List ℕ) → List ℕ
+first_of [] = []
+first_of (file ∷ files) = file
+
+first_in : Option CommandText → List ℕ
+first_in None = []
+first_in (Some c) = first_of c.2
 
 short_name : (file : List ℕ) → is_source_name file ≡ true → length file ≤ 255
 short_name file h = grind (arith, nat_tests)
@@ -69,7 +73,7 @@ named (a ∷ b ∷ c ∷ more) h verb file e = absurd (cc)
 named (a ∷ b ∷ []) h verb file e = by_verb (verb_of a) e
   where
     by_name : (v : Verb) (t : Bool) → is_source_name b ≡ t → cond {A = Option CommandText} t (Some (v, 0, b ∷ [])) None ≡ Some (verb, 0, file ∷ []) → IsName file
-    by_name v true p q = let same : b ≡ file = cc (ap files_in q) in record { short = subst (λ f. length f ≤ 255) same (short_name b p); bytes = subst AreBytes same h.1.0 }
+    by_name v true p q = let same : b ≡ file = ap first_in q in record { short = subst (λ f. length f ≤ 255) same (short_name b p); bytes = subst AreBytes same h.1.0 }
     by_name v false p q = absurd (cc)
 
     by_verb : (o : Option Verb) → with_file o b ≡ Some (verb, 0, file ∷ []) → IsName file

@@ -55,11 +55,11 @@ pub record IsName (file : List ℕ) : Type 0 where
   pub short : length file ≤ 255
   pub bytes : AreBytes file
 
-first_of : List (List ℕ) → List ℕ
+abbrev first_of : List (List ℕ) → List ℕ
 first_of [] = []
 first_of (file ∷ files) = file
 
-first_in : Option CommandText → List ℕ
+abbrev first_in : Option CommandText → List ℕ
 first_in None = []
 first_in (Some c) = first_of c.2
 

@@ -8,6 +8,7 @@ pub mod EachLemmas
 pub mod EntryLemmas
 pub mod LinkLemmas
 pub mod NameLemmas
+pub mod OwnerLemmas
 pub mod RemovalLemmas
 pub mod ReplaceLemmas
 pub mod Seen

@@ -76,3 +76,7 @@ removed_each a (s ∷ ss) = removed_each (removed_from a s) ss
 -- A symbol that, where it is live, stands in this table and owns none.
 abbrev pub IsPlainIn : {K : Type 0} → Scopes K → TableId → SymId → Type 0
 IsPlainIn {K} a t s = (y : Symbol K) → symbol_at a s ≡ Some y → (y.table ≡ t) × (y.owned ≡ None)
+
+-- A symbol that, where it is live, stands in this table, and in the table that it owns no symbol owns one.
+abbrev pub IsShallowIn : {K : Type 0} → Scopes K → TableId → SymId → Type 0
+IsShallowIn {K} a t s = (y : Symbol K) → symbol_at a s ≡ Some y → (y.table ≡ t) × OwnsNoOwner a s

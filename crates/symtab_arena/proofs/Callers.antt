@@ -6,7 +6,7 @@ use Rattle.std.specs.Option.{option_map, option_map_or, option_and_then}
 use Rattle.lf_base.specs.declared.id.SymId.{SymId}
 use Rattle.lf_base.specs.declared.id.TableId.{TableId}
 use Rattle.symtab_arena.specs.Answers.{MayDeclare}
-use Rattle.symtab_arena.specs.Changes.{declared_in, owner_declared_in, standing_for, replaced_in, removed_from, removed_each, IsPlainIn, OwnsNoOwner}
+use Rattle.symtab_arena.specs.Changes.{declared_in, owner_declared_in, standing_for, replaced_in, removed_from, removed_each, IsPlainIn, IsShallowIn, OwnsNoOwner}
 use Rattle.symtab_arena.specs.Links.{Linked}
 use Rattle.symtab_arena.specs.Names.{named}
 use Rattle.symtab_arena.specs.Paths.{path_of}
@@ -245,3 +245,16 @@ module _ {K : Type 0} (a : Scopes K) (links : Linked a) where
   plain_in t s stands free y live =
       let table : Some y.table ≡ Some t = sym (ap (option_map (λ (v : Symbol K). v.table)) live) ∙ stands in
       (cc table, sym (ap (option_and_then (λ (v : Symbol K). v.owned)) live) ∙ free)
+
+  -- the premise of `remove_all_owned`
+  pub shallow_in : (t : TableId) (s : SymId) → table_of a s ≡ Some t → OwnsNoOwner a s → IsShallowIn a t s
+  shallow_in t s stands childless y live =
+      let table : Some y.table ≡ Some t = sym (ap (option_map (λ (v : Symbol K). v.table)) live) ∙ stands in (cc table, childless)
+
+  -- a symbol that owns no table owns no owner
+  pub ownerless_childless : (s : SymId) → owned_by a s ≡ None → OwnsNoOwner a s
+  ownerless_childless s none u e = by (symbol_at a u) (e ∙ none)
+    where
+      by : (o : Option (Symbol K)) → option_map (λ (v : Symbol K). v.table) o ≡ None → option_and_then (λ (v : Symbol K). v.owned) o ≡ None
+      by None h = refl
+      by (Some x) h = absurd (none_some x.table (sym h))

@@ -1,5 +1,5 @@
 //! Removals.
-ghost use Rattle.std.specs.Prelude.{◌≡◌, Some, None, IsSome, All};
+ghost use Rattle.std.specs.Prelude.{◌≡◌, ◌↔◌, Some, None, IsSome, IsTrue, All};
 ghost use Rattle.symtab_arena.specs.Changes.{removed_from, removed_each, IsPlainIn, IsShallowIn, OwnsNoOwner};
 ghost use Rattle.symtab_arena.specs.Names.{those_there};
 ghost use Rattle.symtab_arena.specs.Scopes.{HasTable, IsLive, names_in, owned_by, what_of};
@@ -27,6 +27,24 @@ impl<K> Arena<K> {
         remove_name(&mut self.tables, table, name.bytes());
         self.live -= 1;
         what
+    }
+
+    /// Whether no symbol of the table that a symbol owns owns a table, as `remove_owned` and
+    /// `remove_all_owned` ask. It is so of a symbol that owns none. It takes time in the number of
+    /// that table's symbols.
+    pub fn owns_no_owner(&self, symbol: SymId) -> bool
+        ensures { IsTrue result ↔ OwnsNoOwner self.now symbol }
+    {
+        self.linked();
+        let Some(table) = self.owned(symbol) else {
+            return true;
+        };
+        for place in 0..self.table_len(table) {
+            if self.owned(self.nth(table, place)).is_some() {
+                return false;
+            }
+        }
+        true
     }
 }
 

@@ -83,7 +83,7 @@ module _ {X : Type 0} where
       ]
 
 module _ (tables : List (Option Table)) (t : TableId) (x : Table) (at : entry_at tables t.0 ≡ Some x) where
-  with_names-same : (f : Names → Names) → f x.names ≡ x.names → with_names tables t f ≡ tables
+  pub with_names-same : (f : Names → Names) → f x.names ≡ x.names → with_names tables t f ≡ tables
   with_names-same f h =
       ap (λ o. slice_set tables t.0 (option_map (renamed f) o)) at
       ∙ ap (λ names. slice_set tables t.0 (Some (record x { names = names }))) h

@@ -5,7 +5,7 @@ use Rattle.std.specs.Option.{option_map, option_map_or}
 use Rattle.lf_base.specs.declared.id.SymId.{SymId}
 use Rattle.lf_base.specs.declared.id.TableId.{TableId}
 use Rattle.symtab_arena.specs.Entries.{entry_at}
-use Rattle.symtab_arena.specs.Names.{Names, without}
+use Rattle.symtab_arena.specs.Names.{Names, without, moved_before}
 use Rattle.symtab_arena.specs.Scopes.{Scopes, symbol_at, names_in, next_symbol, next_table, table_of, owned_by}
 use Rattle.symtab_arena.specs.declared.table.Table.{Table}
 use Rattle.symtab_arena.specs.declared.table.Symbol.{Symbol}
@@ -54,6 +54,10 @@ module _ {K : Type 0} (a : Scopes K) where
   abbrev pub without_table : Option TableId → Scopes K
   without_table None = a
   without_table (Some t) = record { tables = slice_set a.tables t.0 None; symbols = map (outside t) a.symbols }
+
+  -- with the symbols of a table from one place on moved before those from an earlier place on
+  abbrev pub moved_in : TableId → ℕ → ℕ → Scopes K
+  moved_in t from to = record a { tables = with_names a.tables t (moved_before from to) }
 
 -- without a symbol, the table that it owns and the symbols in that table
 abbrev pub removed_from : {K : Type 0} → Scopes K → SymId → Scopes K

@@ -4,7 +4,7 @@ ghost use Rattle.symtab_arena.specs.Changes.{standing_for, with_names};
 ghost use Rattle.symtab_arena.specs.Entries.{entry_at, IsThere};
 ghost use Rattle.std.specs.Borrow.{sem};
 ghost use Rattle.symtab_arena.specs.Lends.{lends_place};
-ghost use Rattle.symtab_arena.specs.Names.{named, without, those_there};
+ghost use Rattle.symtab_arena.specs.Names.{named, without, those_there, moved_before};
 ghost use Rattle.symtab_arena.specs.Scopes.{scopes_of};
 ghost use Rattle.symtab_arena.specs.Tables.{names_at, cleared, without_each, taken_out, taken_out_each};
 
@@ -65,6 +65,19 @@ pub(crate) fn remove_name(tables: &mut Vec<Option<Table>>, table: TableId, name:
 {
     if let Some(there) = &mut tables[table.0 as usize] {
         there.names.remove(name);
+    }
+}
+
+/// Moves the names of a table from one place on before those that stand between an earlier place and
+/// it.
+pub(crate) fn move_names(tables: &mut Vec<Option<Table>>, table: TableId, from: usize, to: usize)
+    requires there { IsThere tables.old.items table.0 }
+    requires order { to ≤ from }
+    requires within { from ≤ length (names_at tables.old.items table.0) }
+    ensures { tables.new.items ≡ with_names tables.old.items table (moved_before from to) }
+{
+    if let Some(there) = &mut tables[table.0 as usize] {
+        there.names.move_before(from, to);
     }
 }
 

@@ -1,5 +1,4 @@
-use Rattle.std.proofs.Common.{◌≡◌, ◌≤◌, ◌<◌, true, sym, arith, refl, length, ◌∙◌}
-use Rattle.symtab_arena.specs.Scopes.{names_in}
+use Rattle.std.proofs.Common.{sym, arith, refl, ◌∙◌}
 use Rattle.symtab_arena.proofs.Callers.{walk_tells_childless}
 use Rattle.symtab_arena.proofs.arena.Arena.owns_no_owner.Goals as goal
 

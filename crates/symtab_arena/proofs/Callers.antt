@@ -19,6 +19,7 @@ use Rattle.symtab_arena.proofs.ChangeLemmas.{adds, opens, length_tables_now, oth
 use Rattle.symtab_arena.proofs.CountLemmas.{place_of_name}
 use Rattle.symtab_arena.proofs.EntryLemmas.{none_some, there_within, entry_at_within, entry_at-set_none, entry_at-set_same, entry_at-set_other}
 use Rattle.symtab_arena.proofs.LinkLemmas.{Removes}
+use Rattle.symtab_arena.proofs.OwnerLemmas.{removed_each_shallow, taken_out_each-gone}
 use Rattle.symtab_arena.proofs.RemovalLemmas.{after, removed_is, removes, removed_tables, Linked-removed, owns_no_owner}
 use Rattle.symtab_arena.proofs.WayLemmas.{symbol_seen_here, symbol_seen_above}
 
@@ -219,6 +220,15 @@ module _ {K : Type 0} (a : Scopes K) (t : TableId) (gone : List SymId) (links : 
   pub removed_each_other : (u : SymId) → All (λ s. u ≢ s) gone → symbol_at (removed_each a gone) u ≡ symbol_at a u
   removed_each_other u others =
       ap (λ d. symbol_at d u) (sym (removed_each_is t gone a links there plain).1) ∙ without_each-other gone a.symbols u others
+
+-- After `remove_all_owned`.
+module _ {K : Type 0} (a : Scopes K) (t : TableId) (gone : List SymId) (links : Linked a) (there : HasTable a t) (shallow : All (IsShallowIn a t) gone) where
+  pub removed_shallow_gone : (k : ℕ) (s : SymId) → k < length gone → symbol_at (removed_each a gone) (slice_index_or gone k s) ≡ None
+  removed_shallow_gone k s within =
+      ap (λ d. symbol_at d (slice_index_or gone k s)) (sym (removed_each_shallow t gone a links there shallow).0) ∙ taken_out_each-gone gone a k s within
+
+  pub removed_shallow_linked : Linked (removed_each a gone)
+  removed_shallow_linked = (removed_each_shallow t gone a links there shallow).1
 
 -- What a walk over a table tells.
 module _ {K : Type 0} (a : Scopes K) (links : Linked a) where

@@ -1,5 +1,5 @@
 -- What is left of a table once several of its symbols are taken out at once with the tables that they own.
-use Rattle.std.proofs.Common.{◌≡◌, ◌≢◌, ℕ, zero, suc, ◌+◌, ◌-◌, Bool, true, false, cond, List, [], ◌∷◌, slice_set, Option, Some, None, is_some, All, refl, sym, ap, subst, ◌∙◌, arith, true≢false}
+use Rattle.std.proofs.Common.{◌≡◌, ◌≢◌, ℕ, zero, suc, ◌+◌, ◌-◌, ◌<◌, Bool, true, false, cond, List, [], ◌∷◌, length, slice_set, slice_index_or, Option, Some, None, is_some, All, refl, sym, ap, subst, ◌∙◌, arith, true≢false}
 use Rattle.std.proofs.lemmas.List.Elements.{All-head, All-tail}
 use Rattle.std.specs.List.{count_by}
 use Rattle.std.specs.Option.{option_map, option_map_or, option_and_then}
@@ -10,11 +10,12 @@ use Rattle.symtab_arena.specs.Entries.{entry_at}
 use Rattle.symtab_arena.specs.Links.{Linked}
 use Rattle.symtab_arena.specs.Names.{Names, named, without, those_there}
 use Rattle.symtab_arena.specs.Scopes.{Scopes, scopes_of, table_id, table_at, HasTable, symbol_at, live_count, names_in, symbol_in, table_of, owned_by}
-use Rattle.symtab_arena.specs.Tables.{cleared, taken_with, taken_out, taken_out_each}
+use Rattle.symtab_arena.specs.Tables.{names_at, cleared, taken_with, taken_out, taken_out_each}
 use Rattle.symtab_arena.specs.declared.table.Table.{Table}
 use Rattle.symtab_arena.specs.declared.table.Symbol.{Symbol}
-use Rattle.symtab_arena.proofs.BulkLemmas.{those_there-all, those_there-without, with_names-twice, bulk_none, removed_dead}
+use Rattle.symtab_arena.proofs.BulkLemmas.{without_each-nothing, those_there-all, those_there-without, with_names-twice, bulk_none, removed_dead}
 use Rattle.symtab_arena.proofs.ChangeLemmas.{entry_at-with_names_same, entry_at-with_names_other}
+use Rattle.symtab_arena.proofs.ClearLemmas.{cleared-nothing}
 use Rattle.symtab_arena.proofs.EntryLemmas.{some_from, entry_at-set_none, entry_at-set_other, set_none-nothing}
 use Rattle.symtab_arena.proofs.LinkLemmas.{Removes}
 use Rattle.symtab_arena.proofs.RemovalLemmas.{after, removed_is, removes_shallow, Linked-removed, not_own, names_now, cleared_is}
@@ -51,6 +52,27 @@ with_names-set_none : (tables : List (Option Table)) (t u : TableId) (f : Names 
 with_names-set_none tables t u f d =
     ap (λ o. slice_set (slice_set tables u.0 None) t.0 (option_map (renamed f) o)) (entry_at-set_other tables u.0 t.0 None d)
     ∙ set_commutes tables u.0 t.0 None (option_map (renamed f) (entry_at tables t.0)) (λ e. d (sym e))
+
+module _ {K : Type 0} where
+  -- where nothing stood nothing stands
+  taken_with-nothing : (o : Option TableId) (r : Scopes K) (s : SymId) (n : ℕ) → entry_at r.symbols n ≡ None → entry_at (taken_with o r s).symbols n ≡ None
+  taken_with-nothing None r s n e = without_each-nothing (s ∷ []) r.symbols n e
+  taken_with-nothing (Some u) r s n e =
+      cleared-nothing (names_at r.tables u.0) (slice_set r.symbols s.0 None) n (without_each-nothing (s ∷ []) r.symbols n e)
+
+  taken_with-gone : (o : Option TableId) (r : Scopes K) (s : SymId) → entry_at (taken_with o r s).symbols s.0 ≡ None
+  taken_with-gone None r s = entry_at-set_none r.symbols s.0
+  taken_with-gone (Some u) r s = cleared-nothing (names_at r.tables u.0) (slice_set r.symbols s.0 None) s.0 (entry_at-set_none r.symbols s.0)
+
+  taken_out_each-nothing : (ss : List SymId) (r : Scopes K) (n : ℕ) → entry_at r.symbols n ≡ None → entry_at (taken_out_each r ss).symbols n ≡ None
+  taken_out_each-nothing [] r n e = e
+  taken_out_each-nothing (s ∷ ss) r n e = taken_out_each-nothing ss (taken_out r s) n (taken_with-nothing (owned_by r s) r s n e)
+
+  pub taken_out_each-gone : (ss : List SymId) (r : Scopes K) (k : ℕ) (d : SymId) → k < length ss
+      → entry_at (taken_out_each r ss).symbols (slice_index_or ss k d).0 ≡ None
+  taken_out_each-gone [] r k d h = absurd (omega arith)
+  taken_out_each-gone (s ∷ ss) r zero d h = taken_out_each-nothing ss (taken_out r s) s.0 (taken_with-gone (owned_by r s) r s)
+  taken_out_each-gone (s ∷ ss) r (suc k) d h = taken_out_each-gone ss (taken_out r s) k d (omega (arith, h))
 
 module _ {K : Type 0} (t : TableId) where
   -- the state in which the table lists only symbols that are there
@@ -201,6 +223,12 @@ module _ {K : Type 0} (t : TableId) where
     leaves =
         takes_each ss a (subst (λ (c : Scopes K). Linked c) (sym tidy) links) there (subst (λ (c : Scopes K). All (IsShallowIn c t) ss) (sym tidy) shallow)
 
+    -- one by one and at once are alike
+    pub removed_each_shallow : (tidied (taken_out_each a ss) ≡ removed_each a ss) × Linked (removed_each a ss)
+    removed_each_shallow =
+        let same : tidied (taken_out_each a ss) ≡ removed_each a ss = leaves.same ∙ ap (λ (c : Scopes K). removed_each c ss) tidy in
+        (same, subst (λ (c : Scopes K). Linked c) same leaves.linked)
+
     pub table_after : (tables : List (Option Table)) (symbols : List (Option (Symbol K))) → scopes_of tables symbols ≡ taken_out_each a ss
         → is_some (entry_at tables t.0) ≡ true
     table_after tables symbols p = ap (λ (c : Scopes K). is_some (table_at c t)) p ∙ leaves.there
@@ -223,6 +251,6 @@ module _ {K : Type 0} (t : TableId) where
         ∙ sym (ap (λ (c : Scopes K). those_there c.symbols (names_in a t)) p) in (
           subst (λ (c : Scopes K). Linked c) (sym is) leaves.linked,
           omega arith,
-          is ∙ leaves.same ∙ ap (λ (c : Scopes K). removed_each c ss) tidy,
+          is ∙ removed_each_shallow.0,
           names,
         )

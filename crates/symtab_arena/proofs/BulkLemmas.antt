@@ -83,18 +83,18 @@ module _ {X : Type 0} where
       ]
 
 module _ (tables : List (Option Table)) (t : TableId) (x : Table) (at : entry_at tables t.0 ≡ Some x) where
-  with_names-same : (f : Names → Names) → f x.names ≡ x.names → with_names tables t f ≡ tables
+  pub with_names-same : (f : Names → Names) → f x.names ≡ x.names → with_names tables t f ≡ tables
   with_names-same f h =
       ap (λ o. slice_set tables t.0 (option_map (renamed f) o)) at
       ∙ ap (λ names. slice_set tables t.0 (Some (record x { names = names }))) h
       ∙ set_same tables t.0 x at
 
-  with_names-twice : (f g : Names → Names) → g (f x.names) ≡ g x.names → with_names (with_names tables t f) t g ≡ with_names tables t g
-  with_names-twice f g h =
+  pub with_names-twice : (f g h : Names → Names) → g (f x.names) ≡ h x.names → with_names (with_names tables t f) t g ≡ with_names tables t h
+  with_names-twice f g h same =
       set_twice tables t.0 (option_map (renamed f) (entry_at tables t.0)) (option_map (renamed g) (entry_at (with_names tables t f) t.0))
       ∙ ap (λ o. slice_set tables t.0 (option_map (renamed g) o)) (entry_at-with_names_same tables t f x at)
-      ∙ ap (λ names. slice_set tables t.0 (Some (record x { names = names }))) h
-      ∙ sym (ap (λ o. slice_set tables t.0 (option_map (renamed g) o)) at)
+      ∙ ap (λ names. slice_set tables t.0 (Some (record x { names = names }))) same
+      ∙ sym (ap (λ o. slice_set tables t.0 (option_map (renamed h) o)) at)
 
 module _ {K : Type 0} (t : TableId) where
   -- the state without these symbols
@@ -111,7 +111,7 @@ module _ {K : Type 0} (t : TableId) where
   names_of : (a : Scopes K) (x : Table) → table_at a t ≡ Some x → names_in a t ≡ x.names
   names_of a x e = ap (λ o. option_map_or (λ (v : Table). v.names) o []) e
 
-  bulk_none : (a : Scopes K) → Linked a → HasTable a t → bulk a [] ≡ a
+  pub bulk_none : (a : Scopes K) → Linked a → HasTable a t → bulk a [] ≡ a
   bulk_none a links there =
       let x = some_from (table_at a t) there in
       let all = those_there-all a.symbols (names_in a t) (links.distinct t) (λ n s e. ap is_some (links.lists t n s e).live) in
@@ -130,7 +130,7 @@ module _ {K : Type 0} (t : TableId) where
       let named_s : named y.name x.0.names ≡ Some s = ap (named y.name) (sym (names_of a x.0 x.1)) ∙ ap (λ u. symbol_in a u y.name) (sym in_table) ∙ links.stands s y was in
       let gone = without_each-nothing ss (slice_set a.symbols s.0 None) s.0 (entry_at-set_none a.symbols s.0) in
       let same = those_there-without left y.name s x.0.names named_s gone in
-      λ i. record { tables = with_names-twice a.tables t x.0 x.1 (without y.name) (those_there left) same i; symbols = left }
+      λ i. record { tables = with_names-twice a.tables t x.0 x.1 (without y.name) (those_there left) (those_there left) same i; symbols = left }
 
   plain_left : (a : Scopes K) (s : SymId) (y : Symbol K) (u : SymId) → IsPlainIn a t u → IsPlainIn (first a s y) t u
   plain_left a s y u plain z live =

@@ -6,7 +6,7 @@ use Rattle.std.specs.Option.{option_map, option_map_or, option_and_then}
 use Rattle.lf_base.specs.declared.id.SymId.{SymId}
 use Rattle.lf_base.specs.declared.id.TableId.{TableId}
 use Rattle.symtab_arena.specs.Answers.{MayDeclare}
-use Rattle.symtab_arena.specs.Changes.{declared_in, owner_declared_in, standing_for, replaced_in, removed_from, removed_each, IsPlainIn, OwnsNoOwner}
+use Rattle.symtab_arena.specs.Changes.{declared_in, owner_declared_in, standing_for, replaced_in, removed_from, removed_each, IsPlainIn, IsShallowIn, OwnsNoOwner}
 use Rattle.symtab_arena.specs.Links.{Linked}
 use Rattle.symtab_arena.specs.Names.{named}
 use Rattle.symtab_arena.specs.Paths.{path_of}
@@ -19,6 +19,7 @@ use Rattle.symtab_arena.proofs.ChangeLemmas.{adds, opens, length_tables_now, oth
 use Rattle.symtab_arena.proofs.CountLemmas.{place_of_name}
 use Rattle.symtab_arena.proofs.EntryLemmas.{none_some, there_within, entry_at_within, entry_at-set_none, entry_at-set_same, entry_at-set_other}
 use Rattle.symtab_arena.proofs.LinkLemmas.{Removes}
+use Rattle.symtab_arena.proofs.OwnerLemmas.{removed_each_shallow, taken_out_each-gone}
 use Rattle.symtab_arena.proofs.RemovalLemmas.{after, removed_is, removes, removed_tables, Linked-removed, owns_no_owner}
 use Rattle.symtab_arena.proofs.WayLemmas.{symbol_seen_here, symbol_seen_above}
 
@@ -220,6 +221,15 @@ module _ {K : Type 0} (a : Scopes K) (t : TableId) (gone : List SymId) (links : 
   removed_each_other u others =
       ap (λ d. symbol_at d u) (sym (removed_each_is t gone a links there plain).1) ∙ without_each-other gone a.symbols u others
 
+-- After `remove_all_owned`.
+module _ {K : Type 0} (a : Scopes K) (t : TableId) (gone : List SymId) (links : Linked a) (there : HasTable a t) (shallow : All (IsShallowIn a t) gone) where
+  pub removed_shallow_gone : (k : ℕ) (s : SymId) → k < length gone → symbol_at (removed_each a gone) (slice_index_or gone k s) ≡ None
+  removed_shallow_gone k s within =
+      ap (λ d. symbol_at d (slice_index_or gone k s)) (sym (removed_each_shallow t gone a links there shallow).0) ∙ taken_out_each-gone gone a k s within
+
+  pub removed_shallow_linked : Linked (removed_each a gone)
+  removed_shallow_linked = (removed_each_shallow t gone a links there shallow).1
+
 -- What a walk over a table tells.
 module _ {K : Type 0} (a : Scopes K) (links : Linked a) where
   -- each symbol that stands in a table has a place there
@@ -245,3 +255,16 @@ module _ {K : Type 0} (a : Scopes K) (links : Linked a) where
   plain_in t s stands free y live =
       let table : Some y.table ≡ Some t = sym (ap (option_map (λ (v : Symbol K). v.table)) live) ∙ stands in
       (cc table, sym (ap (option_and_then (λ (v : Symbol K). v.owned)) live) ∙ free)
+
+  -- the premise of `remove_all_owned`
+  pub shallow_in : (t : TableId) (s : SymId) → table_of a s ≡ Some t → OwnsNoOwner a s → IsShallowIn a t s
+  shallow_in t s stands childless y live =
+      let table : Some y.table ≡ Some t = sym (ap (option_map (λ (v : Symbol K). v.table)) live) ∙ stands in (cc table, childless)
+
+  -- a symbol that owns no table owns no owner
+  pub ownerless_childless : (s : SymId) → owned_by a s ≡ None → OwnsNoOwner a s
+  ownerless_childless s none u e = by (symbol_at a u) (e ∙ none)
+    where
+      by : (o : Option (Symbol K)) → option_map (λ (v : Symbol K). v.table) o ≡ None → option_and_then (λ (v : Symbol K). v.owned) o ≡ None
+      by None h = refl
+      by (Some x) h = absurd (none_some x.table (sym h))

@@ -1,10 +1,10 @@
 -- Declarations one behind another.
-use Rattle.std.proofs.Common.{◌≡◌, ℕ, List, [], ◌∷◌, length, insert, Ok, Err, is_some, refl, subst, ◌∙◌, inl, inr, arith}
+use Rattle.std.proofs.Common.{◌≡◌, ℕ, List, [], ◌∷◌, length, insert, Ok, Err, is_some, refl, sym, subst, ◌∙◌, inl, inr, arith}
 use Rattle.std.specs.declared.result.Result.{Result}
 use Rattle.lf_base.specs.declared.id.TableId.{TableId}
 use Rattle.symtab_arena.specs.Answers.{MayDeclare, IsRefusal, DeclaresEach}
 use Rattle.symtab_arena.specs.Changes.{declared_in, declared_last}
-use Rattle.symtab_arena.specs.Scopes.{Scopes, table_at, HasTable, next_symbol}
+use Rattle.symtab_arena.specs.Scopes.{Scopes, table_at, HasTable, names_in, next_symbol}
 use Rattle.symtab_arena.specs.declared.fault.ArenaFault.{ArenaFault}
 use Rattle.symtab_arena.proofs.ChangeLemmas.{with_names-keeps}
 use Rattle.symtab_arena.proofs.EntryLemmas.{some_from}
@@ -15,6 +15,9 @@ module _ {K : Type 0} (a : Scopes K) (t : TableId) where
   table_stays place name what there =
       let x = some_from (table_at a t) there in
       with_names-keeps a.tables t (λ names. insert names place (name, next_symbol a)) x.0 x.1 is_some refl t.0 ∙ there
+
+  pub table_stays_last : (b : Scopes K) (name : List ℕ) (what : K) → b ≡ declared_last a t name what → HasTable a t → HasTable b t
+  table_stays_last b name what same there = subst (λ (c : Scopes K). HasTable c t) (sym same) (table_stays (length (names_in a t)) name what there)
 
   -- after one that was declared the others are
   pub each_more : (b new : Scopes K) (e : List ℕ × K) (es : List (List ℕ × K)) (r : Result (Unit {0}) ArenaFault)

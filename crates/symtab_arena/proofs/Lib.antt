@@ -7,8 +7,11 @@ pub mod CountLemmas
 pub mod EachLemmas
 pub mod EntryLemmas
 pub mod LinkLemmas
+pub mod MovedLemmas
 pub mod NameLemmas
+pub mod OwnerLemmas
 pub mod RemovalLemmas
 pub mod ReplaceLemmas
 pub mod Seen
+pub mod TurnLemmas
 pub mod WayLemmas

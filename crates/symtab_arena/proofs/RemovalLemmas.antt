@@ -126,7 +126,7 @@ module _ {K : Type 0} where
         by None h = absurd (none_some s h)
         by (Some x) h = refl
 
-    names_now : names_in after y.table ≡ without y.name (names_in a y.table)
+    pub names_now : names_in after y.table ≡ without y.name (names_in a y.table)
     names_now =
         let x = some_from (entry_at base.tables y.table.0) table_there in
         ap (λ o. option_map_or (λ (v : Table). v.names) o []) (entry_at-with_names_same base.tables y.table (without y.name) x.0 x.1)
@@ -195,13 +195,15 @@ module _ {K : Type 0} where
           omega arith;
     }
 
-    pub Linked-removed : OwnsNoOwner a s → Linked after
-    Linked-removed childless =
-        Linked-removes a after s y links
-        (removes
+    pub removes_shallow : OwnsNoOwner a s → Removes a after s y
+    removes_shallow childless =
+        removes
         (λ u x live e.
         sym (ap (option_and_then (λ (v : Symbol K). v.owned)) live)
-        ∙ childless u (ap (option_map (λ (v : Symbol K). v.table)) live ∙ sym e ∙ sym (ap (option_and_then (λ (v : Symbol K). v.owned)) was))))
+        ∙ childless u (ap (option_map (λ (v : Symbol K). v.table)) live ∙ sym e ∙ sym (ap (option_and_then (λ (v : Symbol K). v.owned)) was)))
+
+    pub Linked-removed : OwnsNoOwner a s → Linked after
+    Linked-removed childless = Linked-removes a after s y links (removes_shallow childless)
 
     pub removed_tables : length (removed_from a s).tables ≡ length a.tables
     removed_tables =
@@ -232,7 +234,7 @@ module _ {K : Type 0} where
         (subst (λ (b : Scopes K). Linked b) (sym is) (Linked-removed (owns_no_owner none)), omega arith, is ∙ sym removed_is)
 
     -- the table's list of its symbols says which are gone
-    cleared_is : (t : TableId) → cleared (names_in a t) (slice_set a.symbols s.0 None) ≡ slice_set (map (outside t) a.symbols) s.0 None
+    pub cleared_is : (t : TableId) → cleared (names_in a t) (slice_set a.symbols s.0 None) ≡ slice_set (map (outside t) a.symbols) s.0 None
     cleared_is t =
         same_entries left right lengths
         (λ n.

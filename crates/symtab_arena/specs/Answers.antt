@@ -1,9 +1,9 @@
 -- What a declaration answers: the symbol that has the name already, else that no number is left, else the new symbol.
 -- A second declaration of a name in one scope is an error (ISO/IEC 1539-1:2018, 19.3.1).
-use Rattle.std.specs.Prelude.{◌≡◌, ℕ, ◌<◌, ◌⊎◌, List, [], ◌∷◌, length, Some, None, Ok, Err}
+use Rattle.std.specs.Prelude.{◌≡◌, ℕ, suc, ◌<◌, ◌⊎◌, List, [], ◌∷◌, length, Some, None, Ok, Err}
 use Rattle.std.specs.declared.result.Result.{Result}
 use Rattle.lf_base.specs.declared.id.TableId.{TableId}
-use Rattle.symtab_arena.specs.Changes.{declared_last}
+use Rattle.symtab_arena.specs.Changes.{declared_in, declared_last}
 use Rattle.symtab_arena.specs.Scopes.{Scopes, symbol_numbers, symbol_in}
 use Rattle.symtab_arena.specs.declared.fault.ArenaFault.{ArenaFault}
 use Rattle.symtab_arena.specs.declared.fault.ArenaFault.TheVariants.{Twice, Full, Memory}
@@ -42,3 +42,12 @@ DeclaresEach a t [] new r = (r ≡ Ok tt) × (new ≡ a)
 DeclaresEach a t (e ∷ es) new (Ok v) = MayDeclare a t e.0 × DeclaresEach (declared_last a t e.0 e.1) t es new (Ok v)
 DeclaresEach a t (e ∷ es) new (Err fault) =
     (MayDeclare a t e.0 × DeclaresEach (declared_last a t e.0 e.1) t es new (Err fault)) ⊎ (IsRefusal a t e.0 fault × (new ≡ a))
+
+-- Names are declared one behind another from a place on, up to the first that is refused.
+abbrev pub DeclaresEachAt : {K : Type 0} → Scopes K → TableId → ℕ → List (List ℕ × K) → Scopes K → Result (Unit {0}) ArenaFault → Type 0
+DeclaresEachAt a t place [] new r = (r ≡ Ok tt) × (new ≡ a)
+DeclaresEachAt a t place (e ∷ es) new (Ok v) =
+    MayDeclare a t e.0 × DeclaresEachAt (declared_in a t place e.0 e.1) t (suc place) es new (Ok v)
+DeclaresEachAt a t place (e ∷ es) new (Err fault) =
+    (MayDeclare a t e.0 × DeclaresEachAt (declared_in a t place e.0 e.1) t (suc place) es new (Err fault))
+    ⊎ (IsRefusal a t e.0 fault × (new ≡ a))

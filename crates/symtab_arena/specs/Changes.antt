@@ -5,7 +5,7 @@ use Rattle.std.specs.Option.{option_map, option_map_or}
 use Rattle.lf_base.specs.declared.id.SymId.{SymId}
 use Rattle.lf_base.specs.declared.id.TableId.{TableId}
 use Rattle.symtab_arena.specs.Entries.{entry_at}
-use Rattle.symtab_arena.specs.Names.{Names, without}
+use Rattle.symtab_arena.specs.Names.{Names, without, moved_before}
 use Rattle.symtab_arena.specs.Scopes.{Scopes, symbol_at, names_in, next_symbol, next_table, table_of, owned_by}
 use Rattle.symtab_arena.specs.declared.table.Table.{Table}
 use Rattle.symtab_arena.specs.declared.table.Symbol.{Symbol}
@@ -55,6 +55,10 @@ module _ {K : Type 0} (a : Scopes K) where
   without_table None = a
   without_table (Some t) = record { tables = slice_set a.tables t.0 None; symbols = map (outside t) a.symbols }
 
+  -- with the symbols of a table from one place on moved before those from an earlier place on
+  abbrev pub moved_in : TableId → ℕ → ℕ → Scopes K
+  moved_in t from to = record a { tables = with_names a.tables t (moved_before from to) }
+
 -- without a symbol, the table that it owns and the symbols in that table
 abbrev pub removed_from : {K : Type 0} → Scopes K → SymId → Scopes K
 removed_from a s = option_map_or
@@ -76,3 +80,7 @@ removed_each a (s ∷ ss) = removed_each (removed_from a s) ss
 -- A symbol that, where it is live, stands in this table and owns none.
 abbrev pub IsPlainIn : {K : Type 0} → Scopes K → TableId → SymId → Type 0
 IsPlainIn {K} a t s = (y : Symbol K) → symbol_at a s ≡ Some y → (y.table ≡ t) × (y.owned ≡ None)
+
+-- A symbol that, where it is live, stands in this table, and in the table that it owns no symbol owns one.
+abbrev pub IsShallowIn : {K : Type 0} → Scopes K → TableId → SymId → Type 0
+IsShallowIn {K} a t s = (y : Symbol K) → symbol_at a s ≡ Some y → (y.table ≡ t) × OwnsNoOwner a s

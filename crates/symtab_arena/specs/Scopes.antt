@@ -20,6 +20,9 @@ symbol_id n = record { 0 = n }
 abbrev pub table_id : ℕ → TableId
 table_id n = record { 0 = n }
 
+abbrev pub scopes_of : {K : Type 0} → List (Option Table) → List (Option (Symbol K)) → Scopes K
+scopes_of tables symbols = record { tables = tables; symbols = symbols }
+
 -- how many numbers of symbols there are
 abbrev pub symbol_numbers : ℕ
 symbol_numbers = 1048576

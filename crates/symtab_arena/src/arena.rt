@@ -28,8 +28,8 @@ const KNOWN_KEY: [u64; 2] = [0, 0];
 ///
 /// Looking a name up and declaring one last take expected constant time in the size of a table:
 /// names are hashed with a key (see `keyed`). A single removal and a declaration before others take
-/// time in the number of the table's symbols, and so does `remove_all` for as many symbols of a
-/// table as it is given.
+/// time in the number of the table's symbols, and so do `remove_all`, `remove_all_owned` and
+/// `declare_all_at` for as many as they are given.
 #[derive(Drop)]
 pub struct Arena<K> {
     alloc: Global,

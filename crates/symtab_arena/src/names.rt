@@ -1,9 +1,9 @@
-ghost use Rattle.std.specs.Prelude.{◌≡◌, ◌≤◌, [], ◌∷◌, ◌++◌, length, insert, filter, slice_get, is_some, None, OnOk, OnErr};
+ghost use Rattle.std.specs.Prelude.{◌≡◌, ◌<◌, ◌≤◌, [], ◌∷◌, ◌++◌, length, insert, filter, slice_get, swap, is_some, None, OnOk, OnErr};
 ghost use Rattle.std.specs.Map.{remove_entry};
 ghost use Rattle.std.specs.Option.{option_map};
 ghost use Rattle.std.specs.Str.{bytes_eq};
 ghost use Rattle.symtab_arena.specs.Entries.{entry_at};
-ghost use Rattle.symtab_arena.specs.Names.{named, those_there};
+ghost use Rattle.symtab_arena.specs.Names.{named, those_there, moved_before, IsTurned};
 
 use crate::entries::entry;
 use crate::key::NameKey;
@@ -105,5 +105,41 @@ impl Names {
                 ensures { (result ≡ is_some (entry_at entries.entry.now symbol.old.0)) × (symbol.new ≡ symbol.old) }
             { entry(entries, symbol.0).is_some() },
         );
+    }
+
+    /// Exchanges two names.
+    fn exchange(&mut self, first: usize, second: usize)
+        requires first { first < length self.old }
+        requires second { second < length self.old }
+        ensures { self.new ≡ swap self.old first second }
+    {
+        self.entries.swap_indices(first, second);
+    }
+
+    /// Turns the names from one place up to another around.
+    fn turn(&mut self, start: usize, end: usize)
+        requires order { start ≤ end }
+        requires within { end ≤ length self.old }
+        ensures { IsTurned self.old self.new start end }
+    {
+        let mut low = start;
+        let mut high = end;
+        while high - low > 1 {
+            high -= 1;
+            self.exchange(low, high);
+            low += 1;
+        }
+    }
+
+    /// Moves the names from one place on before those that stand between an earlier place and it.
+    pub fn move_before(&mut self, from: usize, to: usize)
+        requires order { to ≤ from }
+        requires within { from ≤ length self.old }
+        ensures { self.new ≡ moved_before from to self.old }
+    {
+        let end = self.len();
+        self.turn(to, from);
+        self.turn(from, end);
+        self.turn(to, end);
     }
 }

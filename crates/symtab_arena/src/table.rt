@@ -1,11 +1,12 @@
 ghost use Rattle.std.specs.Prelude.{◌≡◌, ◌≤◌, ◌+◌, Some, None, IsSome, OnOk, OnErr, length, insert, slice_set, vec_capacity, is_some, count_by};
-ghost use Rattle.std.specs.Option.{option_map};
+ghost use Rattle.std.specs.Option.{option_map, option_and_then};
 ghost use Rattle.symtab_arena.specs.Changes.{standing_for, with_names};
 ghost use Rattle.symtab_arena.specs.Entries.{entry_at, IsThere};
 ghost use Rattle.std.specs.Borrow.{sem};
 ghost use Rattle.symtab_arena.specs.Lends.{lends_place};
-ghost use Rattle.symtab_arena.specs.Names.{named, without, those_there};
-ghost use Rattle.symtab_arena.specs.Tables.{names_at, cleared, without_each};
+ghost use Rattle.symtab_arena.specs.Names.{named, without, those_there, moved_before};
+ghost use Rattle.symtab_arena.specs.Scopes.{scopes_of};
+ghost use Rattle.symtab_arena.specs.Tables.{names_at, cleared, without_each, taken_out, taken_out_each};
 
 use crate::entries::{entry, take};
 use crate::names::Names;
@@ -64,6 +65,19 @@ pub(crate) fn remove_name(tables: &mut Vec<Option<Table>>, table: TableId, name:
 {
     if let Some(there) = &mut tables[table.0 as usize] {
         there.names.remove(name);
+    }
+}
+
+/// Moves the names of a table from one place on before those that stand between an earlier place and
+/// it.
+pub(crate) fn move_names(tables: &mut Vec<Option<Table>>, table: TableId, from: usize, to: usize)
+    requires there { IsThere tables.old.items table.0 }
+    requires order { to ≤ from }
+    requires within { from ≤ length (names_at tables.old.items table.0) }
+    ensures { tables.new.items ≡ with_names tables.old.items table (moved_before from to) }
+{
+    if let Some(there) = &mut tables[table.0 as usize] {
+        there.names.move_before(from, to);
     }
 }
 
@@ -159,4 +173,68 @@ pub(crate) fn drop_scope<K: Drop>(
 {
     let scope = take(tables, table.0);
     clear(symbols, &scope.names)
+}
+
+/// Takes out a table, if it is there, and the symbols that it lists, and counts those that were there.
+fn clear_scope<K: Drop>(
+    tables: &mut Vec<Option<Table>>,
+    symbols: &mut Vec<Option<Symbol<K>>>,
+    table: TableId,
+) -> usize
+    ensures table { tables.new.items ≡ slice_set tables.old.items table.0 None }
+    ensures left { symbols.new.items ≡ cleared (names_at tables.old.items table.0) symbols.old.items }
+    ensures count { count_by is_some symbols.new.items + result
+        ≡ count_by is_some symbols.old.items }
+{
+    match entry(tables, table.0) {
+        Some(_) => {}
+        None => return 0,
+    }
+    drop_scope(tables, symbols, table)
+}
+
+/// The table that a symbol owns.
+pub(crate) fn owned<K>(symbols: &[Option<Symbol<K>>], symbol: SymId) -> Option<TableId>
+    ensures { result ≡ option_and_then (λ y. y.owned) (entry_at symbols.now symbol.0) }
+{
+    entry(symbols, symbol.0)?.owned
+}
+
+/// Takes out a symbol, if it is there, with the table that it owns and the symbols in that table,
+/// and counts all these symbols.
+fn clear_owner<K: Drop>(
+    tables: &mut Vec<Option<Table>>,
+    symbols: &mut Vec<Option<Symbol<K>>>,
+    symbol: SymId,
+) -> usize
+    ensures left { scopes_of tables.new.items symbols.new.items
+        ≡ taken_out (scopes_of tables.old.items symbols.old.items) symbol }
+    ensures count { count_by is_some symbols.new.items + result
+        ≡ count_by is_some symbols.old.items }
+{
+    let owned = owned(symbols, symbol);
+    let gone = clear_one(symbols, symbol);
+    match owned {
+        Some(table) => gone + clear_scope(tables, symbols, table),
+        None => gone,
+    }
+}
+
+/// Takes out the symbols at these numbers, with the tables that they own and the symbols in those
+/// tables, and counts the symbols that were there.
+pub(crate) fn clear_owners<K: Drop>(
+    tables: &mut Vec<Option<Table>>,
+    symbols: &mut Vec<Option<Symbol<K>>>,
+    gone: &[SymId],
+) -> usize
+    ensures left { scopes_of tables.new.items symbols.new.items
+        ≡ taken_out_each (scopes_of tables.old.items symbols.old.items) gone.now }
+    ensures count { count_by is_some symbols.new.items + result
+        ≡ count_by is_some symbols.old.items }
+{
+    let mut count = 0;
+    for symbol in gone {
+        count += clear_owner(tables, symbols, *symbol);
+    }
+    count
 }

@@ -1,14 +1,15 @@
 //! Declarations.
 ghost use Rattle.std.specs.Prelude.{◌≡◌, ◌<◌, ◌≤◌, IfOk, length};
-ghost use Rattle.symtab_arena.specs.Answers.{Admits, Declares, DeclaresEach, Makes, MayDeclare};
-ghost use Rattle.symtab_arena.specs.Changes.{declared_in, owner_declared_in};
+ghost use Rattle.symtab_arena.specs.Answers.{Admits, Declares, DeclaresEach, DeclaresEachAt, Makes, MayDeclare};
+ghost use Rattle.symtab_arena.specs.Changes.{declared_in, moved_in, owner_declared_in};
+ghost use Rattle.symtab_arena.specs.Links.{Linked};
 ghost use Rattle.symtab_arena.specs.Scopes.{next_symbol, next_table, HasTable, names_in};
 
 use super::Arena;
 use crate::entries::reserve;
 use crate::fault::ArenaFault;
 use crate::names::Names;
-use crate::table::{Symbol, Table, insert_name};
+use crate::table::{Symbol, Table, insert_name, move_names};
 use lf_base::{Memory, Name, SymId, TableId};
 use std::alloc::Global;
 
@@ -37,6 +38,17 @@ impl<K> Arena<K> {
             return Err(ArenaFault::Full);
         }
         Ok(())
+    }
+
+    /// Moves the symbols of a table from one place on before those from an earlier place on.
+    fn move_before(&mut self, table: TableId, from: usize, to: usize)
+        requires there { HasTable self.old table }
+        requires order { to ≤ from }
+        requires within { from ≤ length (names_in self.old table) }
+        requires links { Linked (moved_in self.old table from to) }
+        ensures { self.new ≡ moved_in self.old table from to }
+    {
+        move_names(&mut self.tables, table, from, to);
     }
 }
 
@@ -69,6 +81,27 @@ impl<K: Drop> Arena<K> {
             }
         }
         Ok(())
+    }
+
+    /// Declares names in order from a place of a table's declaration order on, as `declare_at` does
+    /// with each at the place behind the last, up to the first that is refused. The answer is that
+    /// refusal, and the names before it stay declared. It takes expected time in the number of the
+    /// names and of the symbols from that place on.
+    pub fn declare_all_at(
+        &mut self,
+        table: TableId,
+        place: usize,
+        names: Vec<(Name, K)>,
+    ) -> Result<(), ArenaFault>
+        requires there { HasTable self.old table }
+        requires within { place ≤ length (names_in self.old table) }
+        ensures { DeclaresEachAt self.old table place names.items self.new result }
+    {
+        self.linked();
+        let from = self.size(table);
+        let declared = self.declare_all(table, names);
+        self.move_before(table, from, place);
+        declared
     }
 
     /// Declares a name as `declare` does, at a place of the declaration order. Later symbols move up

@@ -1,12 +1,12 @@
 //! Removals.
-ghost use Rattle.std.specs.Prelude.{◌≡◌, Some, None, IsSome, All};
-ghost use Rattle.symtab_arena.specs.Changes.{removed_from, removed_each, IsPlainIn, OwnsNoOwner};
+ghost use Rattle.std.specs.Prelude.{◌≡◌, ◌↔◌, Some, None, IsSome, IsTrue, All};
+ghost use Rattle.symtab_arena.specs.Changes.{removed_from, removed_each, IsPlainIn, IsShallowIn, OwnsNoOwner};
 ghost use Rattle.symtab_arena.specs.Names.{those_there};
 ghost use Rattle.symtab_arena.specs.Scopes.{HasTable, IsLive, names_in, owned_by, what_of};
 
 use super::Arena;
 use crate::entries::take;
-use crate::table::{Symbol, clear_each, drop_scope, keep_there, remove_name};
+use crate::table::{Symbol, clear_each, clear_owners, drop_scope, keep_there, remove_name};
 use lf_base::{SymId, TableId};
 
 impl<K> Arena<K> {
@@ -27,6 +27,24 @@ impl<K> Arena<K> {
         remove_name(&mut self.tables, table, name.bytes());
         self.live -= 1;
         what
+    }
+
+    /// Whether no symbol of the table that a symbol owns owns a table, as `remove_owned` and
+    /// `remove_all_owned` ask. It is so of a symbol that owns none. It takes time in the number of
+    /// that table's symbols.
+    pub fn owns_no_owner(&self, symbol: SymId) -> bool
+        ensures { IsTrue result ↔ OwnsNoOwner self.now symbol }
+    {
+        self.linked();
+        let Some(table) = self.owned(symbol) else {
+            return true;
+        };
+        for place in 0..self.table_len(table) {
+            if self.owned(self.nth(table, place)).is_some() {
+                return false;
+            }
+        }
+        true
     }
 }
 
@@ -63,6 +81,21 @@ impl<K: Drop> Arena<K> {
         ensures order { names_in self.new table ≡ those_there self.new.symbols (names_in self.old table) }
     {
         let count = clear_each(&mut self.symbols, gone);
+        keep_there(&mut self.tables, table, &self.symbols);
+        self.live -= count;
+    }
+    /// Takes out symbols of one table all at once, with the tables that they own and the symbols in
+    /// those tables, none of which owns a table. Those that are not live are passed over, and those
+    /// that own no table are taken out as `remove_all` does. It leaves what removing them one by one
+    /// leaves, and the others of the table stay in their order. It takes time in the number of the
+    /// table's symbols, of those that are listed, and of those in the tables that they own.
+    pub fn remove_all_owned(&mut self, table: TableId, gone: &[SymId])
+        requires there { HasTable self.old table }
+        requires shallow { All (IsShallowIn self.old table) gone.now }
+        ensures removed { self.new ≡ removed_each self.old gone.now }
+        ensures order { names_in self.new table ≡ those_there self.new.symbols (names_in self.old table) }
+    {
+        let count = clear_owners(&mut self.tables, &mut self.symbols, gone);
         keep_there(&mut self.tables, table, &self.symbols);
         self.live -= count;
     }

@@ -1,7 +1,6 @@
-use Rattle.std.proofs.Common.{Ok, Err, sym, subst, ◌∙◌, length}
+use Rattle.std.proofs.Common.{Ok, Err, sym, subst, ◌∙◌}
 use Rattle.symtab_arena.specs.Answers.{DeclaresEach}
-use Rattle.symtab_arena.specs.Scopes.{HasTable, names_in}
-use Rattle.symtab_arena.proofs.EachLemmas.{table_stays, each_more, each_ends, each_done}
+use Rattle.symtab_arena.proofs.EachLemmas.{table_stays_last, each_more, each_ends, each_done}
 use Rattle.symtab_arena.proofs.arena.Arena.declare_all.Goals as goal
 
 pub loop-name-init : goal.loop-name-init
@@ -16,9 +15,7 @@ declare-requires g c = c.loop-name.invariant.there
 pub loop-name-preserved : goal.loop-name-preserved
 loop-name-preserved g c =
     let declared = c.in-Ok.ensures in record {
-      there =
-          subst (λ a. HasTable a c.args.table) (sym declared.2)
-          (table_stays c.loop-name.self c.args.table (length (names_in c.loop-name.self c.args.table)) c.in-Some.name c.in-Some.what c.loop-name.invariant.there);
+      there = table_stays_last c.loop-name.self c.args.table c.declare.new.self c.in-Some.name c.in-Some.what declared.2 c.loop-name.invariant.there;
       onward = λ new r h.
           c.loop-name.invariant.onward new r
           (subst (λ es. DeclaresEach c.loop-name.self c.args.table es new r) (sym c.in-Some.ensures.steps.0)

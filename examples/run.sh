@@ -1,6 +1,7 @@
 #!/bin/sh
 # Compiles each example to C by the built compiler, and the C by cc with the checks of its sanitizers; runs it, and
-# compares what it prints with the example's file `expected`. It ends with 0 only if all agree, or where cc is missing.
+# compares what it prints with the example's file `expected`, and its error output with its status with the file `told`. It
+# ends with 0 only if all agree, or where cc is missing.
 set -u
 examples=$(cd "$(dirname "$0")" && pwd)
 program=${LFORTRAN_CLI:-$examples/../crates/lfortran_cli/out/lfortran_cli}
@@ -15,20 +16,21 @@ fi
 work=$(mktemp -d) || exit 1
 trap 'rm -rf "$work"' EXIT
 
-# What an example prints, in the file `printed`.
+# What an example prints, in the file `printed`, and what it tells, in the file `told`.
 run_example() {
     mkdir "$work/$1" && cp "$examples/$1"/*.f90 "$work/$1" && cd "$work/$1" || return 1
     for source in *.f90; do
         "$program" compile "$source" || return 1
     done
     cc -std=c99 -pedantic -fsanitize=undefined,address -fno-sanitize-recover=all -o built ./*.c || return 1
-    ./built > printed
+    ./built > printed 2> told
+    echo "status $?" >> told
 }
 
 failed=0
 for folder in "$examples"/*/; do
     name=$(basename "$folder")
-    if (run_example "$name") && cmp "$work/$name/printed" "$folder/expected"; then
+    if (run_example "$name") && cmp "$work/$name/printed" "$folder/expected" && cmp "$work/$name/told" "$folder/told"; then
         echo "examples: $name agrees"
     else
         echo "examples: $name differs"

@@ -1,0 +1,3 @@
+program p
+print *, 2147483647 + 1
+end program p

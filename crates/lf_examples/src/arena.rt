@@ -231,6 +231,49 @@ fn places_move_up_and_down(rt: HostRuntime) -> Result<(), Fail> {
     Ok(())
 }
 
+/// Names with what they stand for.
+fn listed(alloc: Global, texts: &[&[u8]]) -> Result<Vec<(Name, u32)>, Fail> {
+    let mut names = Vec::new(alloc);
+    for text in texts {
+        let name = Name::new(alloc, *text)?;
+        names.push((name, 7))?;
+    }
+    Ok(names)
+}
+
+/// Declares names from the place of a symbol of the root on.
+fn declare_all_before(
+    rt: &impl Abort,
+    arena: &mut Arena<u32>,
+    place: usize,
+    names: Vec<(Name, u32)>,
+) -> Result<(), ArenaFault> {
+    assert!(rt; arena.has_table(ROOT));
+    assert!(rt; arena.at(ROOT, place).is_some());
+    arena.declare_all_at(ROOT, place, names)
+}
+
+#[test]
+fn names_are_declared_at_once(rt: HostRuntime) -> Result<(), Fail> {
+    let alloc = rt.alloc();
+    let mut arena: Arena<u32> = Arena::new(alloc)?;
+    for text in [b"a", b"b", b"c"] {
+        let _ = declare(&rt, alloc, &mut arena, ROOT, text, 0)?;
+    }
+    let texts: [&[u8]; 3] = [b"x", b"y", b"z"];
+    let names = listed(alloc, &texts)?;
+    assert_eq!(rt; declare_all_before(&rt, &mut arena, 1, names), Ok(()));
+    check_order(&rt, &arena, &[0, 3, 4, 5, 1, 2]);
+    let texts: [&[u8]; 3] = [b"u", b"b", b"v"];
+    let names = listed(alloc, &texts)?;
+    assert_eq!(rt;
+        declare_all_before(&rt, &mut arena, 0, names),
+        Err(ArenaFault::Twice(SymId(1)))
+    );
+    check_order(&rt, &arena, &[6, 0, 3, 4, 5, 1, 2]);
+    Ok(())
+}
+
 /// Declares a scope with one symbol in it, and takes it out again.
 fn declare_and_remove(
     arena: &mut Arena<u32>,

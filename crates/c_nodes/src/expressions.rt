@@ -21,7 +21,7 @@ const LITERAL_HEAD: &[u8] = b"(unsigned char *)\"";
 
 pub fn put<O: Sink>(before: Ended, out: &mut O, piece: &[u8]) -> Ended
     ensures text { Puts before result (O.contents out.old) (O.contents out.new) piece.now }
-    ensures cause { Causes before result (O.faults out.old) (O.faults out.new) }
+    ensures cause { Causes O.may_fail O.takes_memory before result (O.faults out.old) (O.faults out.new) }
     ensures keeps { O.keeps out.old out.new }
 {
     match before {
@@ -32,7 +32,7 @@ pub fn put<O: Sink>(before: Ended, out: &mut O, piece: &[u8]) -> Ended
 
 fn put_number<O: Sink>(before: Ended, out: &mut O, number: u64) -> Ended
     ensures text { Puts before result (O.contents out.old) (O.contents out.new) (decimal number) }
-    ensures cause { Causes before result (O.faults out.old) (O.faults out.new) }
+    ensures cause { Causes O.may_fail O.takes_memory before result (O.faults out.old) (O.faults out.new) }
     ensures keeps { O.keeps out.old out.new }
 {
     let mut buffer = Buffer::new();
@@ -42,7 +42,7 @@ fn put_number<O: Sink>(before: Ended, out: &mut O, number: u64) -> Ended
 #[tactic(auto, using(lf_base::proofs::Chains::chains))]
 fn put_wide<O: Sink>(before: Ended, out: &mut O, number: u64) -> Ended
     ensures text { Puts before result (O.contents out.old) (O.contents out.new) (wide_text number) }
-    ensures cause { Causes before result (O.faults out.old) (O.faults out.new) }
+    ensures cause { Causes O.may_fail O.takes_memory before result (O.faults out.old) (O.faults out.new) }
     ensures keeps { O.keeps out.old out.new }
 {
     let ended = put(before, out, b"INT64_C(");
@@ -52,7 +52,7 @@ fn put_wide<O: Sink>(before: Ended, out: &mut O, number: u64) -> Ended
 
 pub fn put_constant<O: Sink>(before: Ended, out: &mut O, value: u64) -> Ended
     ensures text { Puts before result (O.contents out.old) (O.contents out.new) (constant_text value) }
-    ensures cause { Causes before result (O.faults out.old) (O.faults out.new) }
+    ensures cause { Causes O.may_fail O.takes_memory before result (O.faults out.old) (O.faults out.new) }
     ensures keeps { O.keeps out.old out.new }
 {
     if value <= GREATEST_PLAIN {
@@ -64,7 +64,7 @@ pub fn put_constant<O: Sink>(before: Ended, out: &mut O, value: u64) -> Ended
 
 fn put_operator<O: Sink>(before: Ended, out: &mut O, operator: CBinary) -> Ended
     ensures text { Puts before result (O.contents out.old) (O.contents out.new) (operator_text operator) }
-    ensures cause { Causes before result (O.faults out.old) (O.faults out.new) }
+    ensures cause { Causes O.may_fail O.takes_memory before result (O.faults out.old) (O.faults out.new) }
     ensures keeps { O.keeps out.old out.new }
 {
     let text: &[u8] = match operator {
@@ -86,7 +86,7 @@ fn put_operator<O: Sink>(before: Ended, out: &mut O, operator: CBinary) -> Ended
 #[tactic(auto, using(lf_base::proofs::Chains::chains))]
 pub fn put_type<O: Sink>(before: Ended, out: &mut O, kind: &CType) -> Ended
     ensures text { Puts before result (O.contents out.old) (O.contents out.new) (type_text kind.now) }
-    ensures cause { Causes before result (O.faults out.old) (O.faults out.new) }
+    ensures cause { Causes O.may_fail O.takes_memory before result (O.faults out.old) (O.faults out.new) }
     ensures keeps { O.keeps out.old out.new }
 {
     match kind {
@@ -99,7 +99,7 @@ pub fn put_type<O: Sink>(before: Ended, out: &mut O, kind: &CType) -> Ended
 
 pub fn put_result<O: Sink>(before: Ended, out: &mut O, result_type: &CResult) -> Ended
     ensures text { Puts before result (O.contents out.old) (O.contents out.new) (result_text result_type.now) }
-    ensures cause { Causes before result (O.faults out.old) (O.faults out.new) }
+    ensures cause { Causes O.may_fail O.takes_memory before result (O.faults out.old) (O.faults out.new) }
     ensures keeps { O.keeps out.old out.new }
 {
     match result_type {
@@ -111,7 +111,7 @@ pub fn put_result<O: Sink>(before: Ended, out: &mut O, result_type: &CResult) ->
 
 fn put_byte<O: Sink>(before: Ended, out: &mut O, byte: u8) -> Ended
     ensures text { Puts before result (O.contents out.old) (O.contents out.new) (byte_text byte) }
-    ensures cause { Causes before result (O.faults out.old) (O.faults out.new) }
+    ensures cause { Causes O.may_fail O.takes_memory before result (O.faults out.old) (O.faults out.new) }
     ensures keeps { O.keeps out.old out.new }
 {
     let escaped = [
@@ -130,7 +130,7 @@ fn put_byte<O: Sink>(before: Ended, out: &mut O, byte: u8) -> Ended
 #[tactic(auto, using(crate::proofs::Texts::loops))]
 fn put_bytes<O: Sink>(before: Ended, out: &mut O, bytes: &[u8]) -> Ended
     ensures text { Puts before result (O.contents out.old) (O.contents out.new) (joined (byte_texts bytes.now)) }
-    ensures cause { Causes before result (O.faults out.old) (O.faults out.new) }
+    ensures cause { Causes O.may_fail O.takes_memory before result (O.faults out.old) (O.faults out.new) }
     ensures keeps { O.keeps out.old out.new }
 {
     let mut ended = before;
@@ -143,7 +143,7 @@ fn put_bytes<O: Sink>(before: Ended, out: &mut O, bytes: &[u8]) -> Ended
 #[tactic(auto, using(lf_base::proofs::Chains::chains))]
 fn put_literal<O: Sink>(before: Ended, out: &mut O, bytes: &[u8]) -> Ended
     ensures text { Puts before result (O.contents out.old) (O.contents out.new) (literal_text bytes.now) }
-    ensures cause { Causes before result (O.faults out.old) (O.faults out.new) }
+    ensures cause { Causes O.may_fail O.takes_memory before result (O.faults out.old) (O.faults out.new) }
     ensures keeps { O.keeps out.old out.new }
 {
     let ended = put(before, out, LITERAL_HEAD);
@@ -154,7 +154,7 @@ fn put_literal<O: Sink>(before: Ended, out: &mut O, bytes: &[u8]) -> Ended
 #[tactic(auto, using(lf_base::proofs::Chains::chains))]
 fn put_member<O: Sink>(before: Ended, out: &mut O, name: &Name) -> Ended
     ensures text { Puts before result (O.contents out.old) (O.contents out.new) (member_text name.now) }
-    ensures cause { Causes before result (O.faults out.old) (O.faults out.new) }
+    ensures cause { Causes O.may_fail O.takes_memory before result (O.faults out.old) (O.faults out.new) }
     ensures keeps { O.keeps out.old out.new }
 {
     put(put(before, out, b"."), out, name.bytes())
@@ -164,7 +164,7 @@ fn put_member<O: Sink>(before: Ended, out: &mut O, name: &Name) -> Ended
 #[tactic(auto, using(crate::proofs::Texts::texts))]
 pub fn put_expr<O: Sink>(before: Ended, out: &mut O, expr: &CExpr) -> Ended
     ensures text { Puts before result (O.contents out.old) (O.contents out.new) (expr_text expr.now) }
-    ensures cause { Causes before result (O.faults out.old) (O.faults out.new) }
+    ensures cause { Causes O.may_fail O.takes_memory before result (O.faults out.old) (O.faults out.new) }
     ensures keeps { O.keeps out.old out.new }
 {
     match expr {
@@ -201,7 +201,7 @@ pub fn put_expr<O: Sink>(before: Ended, out: &mut O, expr: &CExpr) -> Ended
 #[tactic(auto, using(lf_base::proofs::Chains::chains))]
 fn put_subscript<O: Sink>(before: Ended, out: &mut O, subscript: &CExpr) -> Ended
     ensures text { Puts before result (O.contents out.old) (O.contents out.new) (subscript_text (expr_text subscript.now)) }
-    ensures cause { Causes before result (O.faults out.old) (O.faults out.new) }
+    ensures cause { Causes O.may_fail O.takes_memory before result (O.faults out.old) (O.faults out.new) }
     ensures keeps { O.keeps out.old out.new }
 {
     let ended = put(before, out, b"[");
@@ -213,7 +213,7 @@ fn put_subscript<O: Sink>(before: Ended, out: &mut O, subscript: &CExpr) -> Ende
 #[tactic(auto, using(lf_base::proofs::Chains::chains))]
 fn put_behind<O: Sink>(before: Ended, out: &mut O, word: &[u8], expr: &CExpr) -> Ended
     ensures text { Puts before result (O.contents out.old) (O.contents out.new) (joined (word.now ∷ expr_text expr.now ∷ [])) }
-    ensures cause { Causes before result (O.faults out.old) (O.faults out.new) }
+    ensures cause { Causes O.may_fail O.takes_memory before result (O.faults out.old) (O.faults out.new) }
     ensures keeps { O.keeps out.old out.new }
 {
     let ended = put(before, out, word);
@@ -224,7 +224,7 @@ fn put_behind<O: Sink>(before: Ended, out: &mut O, word: &[u8], expr: &CExpr) ->
 #[tactic(auto, using(lf_base::proofs::Chains::chains))]
 fn put_cast<O: Sink>(before: Ended, out: &mut O, kind: &CType, operand: &CExpr) -> Ended
     ensures text { Puts before result (O.contents out.old) (O.contents out.new) (cast_text kind.now (expr_text operand.now)) }
-    ensures cause { Causes before result (O.faults out.old) (O.faults out.new) }
+    ensures cause { Causes O.may_fail O.takes_memory before result (O.faults out.old) (O.faults out.new) }
     ensures keeps { O.keeps out.old out.new }
 {
     let ended = put(before, out, b"(");
@@ -237,7 +237,7 @@ fn put_cast<O: Sink>(before: Ended, out: &mut O, kind: &CType, operand: &CExpr) 
 #[tactic(auto, using(lf_base::proofs::Chains::chains))]
 fn put_argument<O: Sink>(before: Ended, out: &mut O, argument: &CExpr) -> Ended
     ensures text { Puts before result (O.contents out.old) (O.contents out.new) (behind_comma (expr_text argument.now)) }
-    ensures cause { Causes before result (O.faults out.old) (O.faults out.new) }
+    ensures cause { Causes O.may_fail O.takes_memory before result (O.faults out.old) (O.faults out.new) }
     ensures keeps { O.keeps out.old out.new }
 {
     let ended = put(before, out, b", ");
@@ -247,7 +247,7 @@ fn put_argument<O: Sink>(before: Ended, out: &mut O, argument: &CExpr) -> Ended
 #[tactic(auto, using(crate::proofs::Texts::loops))]
 fn put_more_arguments<O: Sink>(before: Ended, out: &mut O, arguments: &[CExpr]) -> Ended
     ensures text { Puts before result (O.contents out.old) (O.contents out.new) (joined (behind_commas (expr_texts arguments.now))) }
-    ensures cause { Causes before result (O.faults out.old) (O.faults out.new) }
+    ensures cause { Causes O.may_fail O.takes_memory before result (O.faults out.old) (O.faults out.new) }
     ensures keeps { O.keeps out.old out.new }
 {
     let mut ended = before;
@@ -260,7 +260,7 @@ fn put_more_arguments<O: Sink>(before: Ended, out: &mut O, arguments: &[CExpr]) 
 #[tactic(auto, using(crate::proofs::Texts::listing))]
 fn put_arguments<O: Sink>(before: Ended, out: &mut O, arguments: &[CExpr]) -> Ended
     ensures text { Puts before result (O.contents out.old) (O.contents out.new) (listed (expr_texts arguments.now)) }
-    ensures cause { Causes before result (O.faults out.old) (O.faults out.new) }
+    ensures cause { Causes O.may_fail O.takes_memory before result (O.faults out.old) (O.faults out.new) }
     ensures keeps { O.keeps out.old out.new }
 {
     match arguments.split_first() {
@@ -275,7 +275,7 @@ fn put_arguments<O: Sink>(before: Ended, out: &mut O, arguments: &[CExpr]) -> En
 #[tactic(auto, using(lf_base::proofs::Chains::chains))]
 pub fn put_call<O: Sink>(before: Ended, out: &mut O, callee: &Name, arguments: &[CExpr]) -> Ended
     ensures text { Puts before result (O.contents out.old) (O.contents out.new) (call_text callee.now arguments.now) }
-    ensures cause { Causes before result (O.faults out.old) (O.faults out.new) }
+    ensures cause { Causes O.may_fail O.takes_memory before result (O.faults out.old) (O.faults out.new) }
     ensures keeps { O.keeps out.old out.new }
 {
     let ended = put(before, out, callee.bytes());

@@ -1,7 +1,7 @@
 //! Prints a C file piece by piece. Each function is handed how the puts before it ended, puts nothing after a
 //! failure, and hands on how its own ended.
 
-ghost use Rattle.std.specs.Prelude.{[], ◌∷◌, Ok, OnOk, OnErr};
+ghost use Rattle.std.specs.Prelude.{◌≡◌, false, [], ◌∷◌, Ok, OnOk, OnErr};
 ghost use Rattle.lf_base.specs.Causes.{HasCause};
 ghost use Rattle.lf_base.specs.Contents.{Appends, AppendsPart, joined};
 ghost use Rattle.lf_base.specs.Puts.{Puts, Causes};
@@ -16,7 +16,7 @@ const HEADERS: &[u8] = b"#include <stdint.h>\n#include <stdio.h>\n#include <stdl
 #[tactic(auto, using(lf_base::proofs::Chains::chains))]
 fn put_declared<O: Sink>(before: Ended, out: &mut O, kind: &CType, name: &Name) -> Ended
     ensures text { Puts before result (O.contents out.old) (O.contents out.new) (declared_text kind.now name.now) }
-    ensures cause { Causes before result (O.faults out.old) (O.faults out.new) }
+    ensures cause { Causes O.may_fail O.takes_memory before result (O.faults out.old) (O.faults out.new) }
     ensures keeps { O.keeps out.old out.new }
 {
     let ended = put_type(before, out, kind);
@@ -27,7 +27,7 @@ fn put_declared<O: Sink>(before: Ended, out: &mut O, kind: &CType, name: &Name) 
 #[tactic(auto, using(lf_base::proofs::Chains::chains))]
 fn put_pointer<O: Sink>(before: Ended, out: &mut O, kind: &CType, name: &Name) -> Ended
     ensures text { Puts before result (O.contents out.old) (O.contents out.new) (pointer_text kind.now name.now) }
-    ensures cause { Causes before result (O.faults out.old) (O.faults out.new) }
+    ensures cause { Causes O.may_fail O.takes_memory before result (O.faults out.old) (O.faults out.new) }
     ensures keeps { O.keeps out.old out.new }
 {
     let ended = put_type(before, out, kind);
@@ -39,7 +39,7 @@ fn put_pointer<O: Sink>(before: Ended, out: &mut O, kind: &CType, name: &Name) -
 #[tactic(auto, using(lf_base::proofs::Chains::chains))]
 fn put_stored<O: Sink>(before: Ended, out: &mut O, value: &CExpr) -> Ended
     ensures text { Puts before result (O.contents out.old) (O.contents out.new) (stored_text value.now) }
-    ensures cause { Causes before result (O.faults out.old) (O.faults out.new) }
+    ensures cause { Causes O.may_fail O.takes_memory before result (O.faults out.old) (O.faults out.new) }
     ensures keeps { O.keeps out.old out.new }
 {
     let ended = put(before, out, b" = ");
@@ -50,7 +50,7 @@ fn put_stored<O: Sink>(before: Ended, out: &mut O, value: &CExpr) -> Ended
 #[tactic(auto, using(lf_base::proofs::Chains::chains))]
 fn put_received<O: Sink>(before: Ended, out: &mut O, callee: &Name, arguments: &[CExpr]) -> Ended
     ensures text { Puts before result (O.contents out.old) (O.contents out.new) (received_text callee.now arguments.now) }
-    ensures cause { Causes before result (O.faults out.old) (O.faults out.new) }
+    ensures cause { Causes O.may_fail O.takes_memory before result (O.faults out.old) (O.faults out.new) }
     ensures keeps { O.keeps out.old out.new }
 {
     let ended = put(before, out, b" = ");
@@ -61,7 +61,7 @@ fn put_received<O: Sink>(before: Ended, out: &mut O, callee: &Name, arguments: &
 #[tactic(auto, using(lf_base::proofs::Chains::chains))]
 fn put_array<O: Sink>(before: Ended, out: &mut O, kind: &CType, name: &Name, size: &CExpr) -> Ended
     ensures text { Puts before result (O.contents out.old) (O.contents out.new) (array_text kind.now name.now size.now) }
-    ensures cause { Causes before result (O.faults out.old) (O.faults out.new) }
+    ensures cause { Causes O.may_fail O.takes_memory before result (O.faults out.old) (O.faults out.new) }
     ensures keeps { O.keeps out.old out.new }
 {
     let ended = put_declared(before, out, kind, name);
@@ -73,7 +73,7 @@ fn put_array<O: Sink>(before: Ended, out: &mut O, kind: &CType, name: &Name, siz
 #[tactic(auto, using(lf_base::proofs::Chains::chains))]
 fn put_returned<O: Sink>(before: Ended, out: &mut O, value: &CExpr) -> Ended
     ensures text { Puts before result (O.contents out.old) (O.contents out.new) (returned_text value.now) }
-    ensures cause { Causes before result (O.faults out.old) (O.faults out.new) }
+    ensures cause { Causes O.may_fail O.takes_memory before result (O.faults out.old) (O.faults out.new) }
     ensures keeps { O.keeps out.old out.new }
 {
     let ended = put(before, out, b"return ");
@@ -89,7 +89,7 @@ fn put_returned_call<O: Sink>(
     arguments: &[CExpr],
 ) -> Ended
     ensures text { Puts before result (O.contents out.old) (O.contents out.new) (returned_call_text callee.now arguments.now) }
-    ensures cause { Causes before result (O.faults out.old) (O.faults out.new) }
+    ensures cause { Causes O.may_fail O.takes_memory before result (O.faults out.old) (O.faults out.new) }
     ensures keeps { O.keeps out.old out.new }
 {
     let ended = put(before, out, b"return ");
@@ -100,7 +100,7 @@ fn put_returned_call<O: Sink>(
 #[tactic(auto, using(lf_base::proofs::Chains::chains))]
 fn put_opened<O: Sink>(before: Ended, out: &mut O, word: &[u8], test: &CExpr) -> Ended
     ensures text { Puts before result (O.contents out.old) (O.contents out.new) (opened_text word.now test.now) }
-    ensures cause { Causes before result (O.faults out.old) (O.faults out.new) }
+    ensures cause { Causes O.may_fail O.takes_memory before result (O.faults out.old) (O.faults out.new) }
     ensures keeps { O.keeps out.old out.new }
 {
     let ended = put(before, out, word);
@@ -111,7 +111,7 @@ fn put_opened<O: Sink>(before: Ended, out: &mut O, word: &[u8], test: &CExpr) ->
 #[tactic(auto, using(lf_base::proofs::Chains::chains))]
 fn put_plain<O: Sink>(before: Ended, out: &mut O, kind: &CType, name: &Name) -> Ended
     ensures text { Puts before result (O.contents out.old) (O.contents out.new) (plain_text kind.now name.now) }
-    ensures cause { Causes before result (O.faults out.old) (O.faults out.new) }
+    ensures cause { Causes O.may_fail O.takes_memory before result (O.faults out.old) (O.faults out.new) }
     ensures keeps { O.keeps out.old out.new }
 {
     let ended = put_declared(before, out, kind, name);
@@ -127,7 +127,7 @@ fn put_object<O: Sink>(
     value: &CExpr,
 ) -> Ended
     ensures text { Puts before result (O.contents out.old) (O.contents out.new) (initialized_text kind.now name.now value.now) }
-    ensures cause { Causes before result (O.faults out.old) (O.faults out.new) }
+    ensures cause { Causes O.may_fail O.takes_memory before result (O.faults out.old) (O.faults out.new) }
     ensures keeps { O.keeps out.old out.new }
 {
     let ended = put_declared(before, out, kind, name);
@@ -143,7 +143,7 @@ fn put_pointed<O: Sink>(
     value: &CExpr,
 ) -> Ended
     ensures text { Puts before result (O.contents out.old) (O.contents out.new) (initialized_pointer_text kind.now name.now value.now) }
-    ensures cause { Causes before result (O.faults out.old) (O.faults out.new) }
+    ensures cause { Causes O.may_fail O.takes_memory before result (O.faults out.old) (O.faults out.new) }
     ensures keeps { O.keeps out.old out.new }
 {
     let ended = put_pointer(before, out, kind, name);
@@ -160,7 +160,7 @@ fn put_received_object<O: Sink>(
     arguments: &[CExpr],
 ) -> Ended
     ensures text { Puts before result (O.contents out.old) (O.contents out.new) (initialized_by_text kind.now name.now callee.now arguments.now) }
-    ensures cause { Causes before result (O.faults out.old) (O.faults out.new) }
+    ensures cause { Causes O.may_fail O.takes_memory before result (O.faults out.old) (O.faults out.new) }
     ensures keeps { O.keeps out.old out.new }
 {
     let ended = put_declared(before, out, kind, name);
@@ -170,7 +170,7 @@ fn put_received_object<O: Sink>(
 #[tactic(auto, using(lf_base::proofs::Chains::chains))]
 fn put_assigned<O: Sink>(before: Ended, out: &mut O, target: &CExpr, value: &CExpr) -> Ended
     ensures text { Puts before result (O.contents out.old) (O.contents out.new) (assigned_text target.now value.now) }
-    ensures cause { Causes before result (O.faults out.old) (O.faults out.new) }
+    ensures cause { Causes O.may_fail O.takes_memory before result (O.faults out.old) (O.faults out.new) }
     ensures keeps { O.keeps out.old out.new }
 {
     let ended = put_expr(before, out, target);
@@ -186,7 +186,7 @@ fn put_assigned_by<O: Sink>(
     arguments: &[CExpr],
 ) -> Ended
     ensures text { Puts before result (O.contents out.old) (O.contents out.new) (assigned_by_text target.now callee.now arguments.now) }
-    ensures cause { Causes before result (O.faults out.old) (O.faults out.new) }
+    ensures cause { Causes O.may_fail O.takes_memory before result (O.faults out.old) (O.faults out.new) }
     ensures keeps { O.keeps out.old out.new }
 {
     let ended = put_expr(before, out, target);
@@ -196,7 +196,7 @@ fn put_assigned_by<O: Sink>(
 #[tactic(auto, using(lf_base::proofs::Chains::chains))]
 fn put_called<O: Sink>(before: Ended, out: &mut O, callee: &Name, arguments: &[CExpr]) -> Ended
     ensures text { Puts before result (O.contents out.old) (O.contents out.new) (called_text callee.now arguments.now) }
-    ensures cause { Causes before result (O.faults out.old) (O.faults out.new) }
+    ensures cause { Causes O.may_fail O.takes_memory before result (O.faults out.old) (O.faults out.new) }
     ensures keeps { O.keeps out.old out.new }
 {
     let ended = put_call(before, out, callee, arguments);
@@ -206,7 +206,7 @@ fn put_called<O: Sink>(before: Ended, out: &mut O, callee: &Name, arguments: &[C
 #[tactic(auto, using(lf_base::proofs::Chains::chains))]
 fn put_goto<O: Sink>(before: Ended, out: &mut O, label: &Name) -> Ended
     ensures text { Puts before result (O.contents out.old) (O.contents out.new) (goto_text label.now) }
-    ensures cause { Causes before result (O.faults out.old) (O.faults out.new) }
+    ensures cause { Causes O.may_fail O.takes_memory before result (O.faults out.old) (O.faults out.new) }
     ensures keeps { O.keeps out.old out.new }
 {
     let ended = put(before, out, b"goto ");
@@ -217,7 +217,7 @@ fn put_goto<O: Sink>(before: Ended, out: &mut O, label: &Name) -> Ended
 #[tactic(auto, using(lf_base::proofs::Chains::chains))]
 fn put_label<O: Sink>(before: Ended, out: &mut O, name: &Name) -> Ended
     ensures text { Puts before result (O.contents out.old) (O.contents out.new) (label_text name.now) }
-    ensures cause { Causes before result (O.faults out.old) (O.faults out.new) }
+    ensures cause { Causes O.may_fail O.takes_memory before result (O.faults out.old) (O.faults out.new) }
     ensures keeps { O.keeps out.old out.new }
 {
     let ended = put(before, out, name.bytes());
@@ -228,7 +228,7 @@ fn put_label<O: Sink>(before: Ended, out: &mut O, name: &Name) -> Ended
 #[tactic(auto, using(crate::proofs::Texts::texts))]
 fn put_stmt<O: Sink>(before: Ended, out: &mut O, stmt: &CStmt) -> Ended
     ensures text { Puts before result (O.contents out.old) (O.contents out.new) (stmt_text stmt.now) }
-    ensures cause { Causes before result (O.faults out.old) (O.faults out.new) }
+    ensures cause { Causes O.may_fail O.takes_memory before result (O.faults out.old) (O.faults out.new) }
     ensures keeps { O.keeps out.old out.new }
 {
     match stmt {
@@ -290,7 +290,7 @@ fn put_block<O: Sink>(
     test: &CExpr,
 ) -> Ended
     ensures text { Puts before result (O.contents out.old) (O.contents out.new) (guarded_text word.now test.now (stmt_texts body.now)) }
-    ensures cause { Causes before result (O.faults out.old) (O.faults out.new) }
+    ensures cause { Causes O.may_fail O.takes_memory before result (O.faults out.old) (O.faults out.new) }
     ensures keeps { O.keeps out.old out.new }
 {
     let ended = put_opened(before, out, word, test);
@@ -302,7 +302,7 @@ fn put_block<O: Sink>(
 #[tactic(auto, using(lf_base::proofs::Chains::chains))]
 fn put_closed<O: Sink>(before: Ended, out: &mut O, body: &[CStmt]) -> Ended
     ensures text { Puts before result (O.contents out.old) (O.contents out.new) (closed_text (stmt_texts body.now)) }
-    ensures cause { Causes before result (O.faults out.old) (O.faults out.new) }
+    ensures cause { Causes O.may_fail O.takes_memory before result (O.faults out.old) (O.faults out.new) }
     ensures keeps { O.keeps out.old out.new }
 {
     let ended = put_stmts(before, out, body);
@@ -313,7 +313,7 @@ fn put_closed<O: Sink>(before: Ended, out: &mut O, body: &[CStmt]) -> Ended
 #[tactic(auto, using(lf_base::proofs::Chains::chains))]
 fn put_else<O: Sink>(before: Ended, out: &mut O, body: &[CStmt]) -> Ended
     ensures text { Puts before result (O.contents out.old) (O.contents out.new) (else_text (stmt_texts body.now)) }
-    ensures cause { Causes before result (O.faults out.old) (O.faults out.new) }
+    ensures cause { Causes O.may_fail O.takes_memory before result (O.faults out.old) (O.faults out.new) }
     ensures keeps { O.keeps out.old out.new }
 {
     let ended = put(before, out, b"} else {\n");
@@ -324,7 +324,7 @@ fn put_else<O: Sink>(before: Ended, out: &mut O, body: &[CStmt]) -> Ended
 #[tactic(auto, using(crate::proofs::Texts::loops))]
 fn put_stmts<O: Sink>(before: Ended, out: &mut O, body: &[CStmt]) -> Ended
     ensures text { Puts before result (O.contents out.old) (O.contents out.new) (joined (stmt_texts body.now)) }
-    ensures cause { Causes before result (O.faults out.old) (O.faults out.new) }
+    ensures cause { Causes O.may_fail O.takes_memory before result (O.faults out.old) (O.faults out.new) }
     ensures keeps { O.keeps out.old out.new }
 {
     let mut ended = before;
@@ -336,7 +336,7 @@ fn put_stmts<O: Sink>(before: Ended, out: &mut O, body: &[CStmt]) -> Ended
 
 fn put_parameter<O: Sink>(before: Ended, out: &mut O, parameter: &CParameter) -> Ended
     ensures text { Puts before result (O.contents out.old) (O.contents out.new) (parameter_text parameter.now) }
-    ensures cause { Causes before result (O.faults out.old) (O.faults out.new) }
+    ensures cause { Causes O.may_fail O.takes_memory before result (O.faults out.old) (O.faults out.new) }
     ensures keeps { O.keeps out.old out.new }
 {
     match parameter {
@@ -349,7 +349,7 @@ fn put_parameter<O: Sink>(before: Ended, out: &mut O, parameter: &CParameter) ->
 #[tactic(auto, using(lf_base::proofs::Chains::chains))]
 fn put_next_parameter<O: Sink>(before: Ended, out: &mut O, parameter: &CParameter) -> Ended
     ensures text { Puts before result (O.contents out.old) (O.contents out.new) (behind_comma (parameter_text parameter.now)) }
-    ensures cause { Causes before result (O.faults out.old) (O.faults out.new) }
+    ensures cause { Causes O.may_fail O.takes_memory before result (O.faults out.old) (O.faults out.new) }
     ensures keeps { O.keeps out.old out.new }
 {
     let ended = put(before, out, b", ");
@@ -359,7 +359,7 @@ fn put_next_parameter<O: Sink>(before: Ended, out: &mut O, parameter: &CParamete
 #[tactic(auto, using(crate::proofs::Texts::loops))]
 fn put_more_parameters<O: Sink>(before: Ended, out: &mut O, parameters: &[CParameter]) -> Ended
     ensures text { Puts before result (O.contents out.old) (O.contents out.new) (joined (behind_commas (parameter_texts parameters.now))) }
-    ensures cause { Causes before result (O.faults out.old) (O.faults out.new) }
+    ensures cause { Causes O.may_fail O.takes_memory before result (O.faults out.old) (O.faults out.new) }
     ensures keeps { O.keeps out.old out.new }
 {
     let mut ended = before;
@@ -372,7 +372,7 @@ fn put_more_parameters<O: Sink>(before: Ended, out: &mut O, parameters: &[CParam
 #[tactic(auto, using(crate::proofs::Texts::listing))]
 fn put_listed<O: Sink>(before: Ended, out: &mut O, parameters: &[CParameter]) -> Ended
     ensures text { Puts before result (O.contents out.old) (O.contents out.new) (listed (parameter_texts parameters.now)) }
-    ensures cause { Causes before result (O.faults out.old) (O.faults out.new) }
+    ensures cause { Causes O.may_fail O.takes_memory before result (O.faults out.old) (O.faults out.new) }
     ensures keeps { O.keeps out.old out.new }
 {
     match parameters.split_first() {
@@ -387,7 +387,7 @@ fn put_listed<O: Sink>(before: Ended, out: &mut O, parameters: &[CParameter]) ->
 #[tactic(auto, using(lf_base::proofs::Chains::chains))]
 fn put_enclosed<O: Sink>(before: Ended, out: &mut O, parameters: &[CParameter]) -> Ended
     ensures text { Puts before result (O.contents out.old) (O.contents out.new) (enclosed_text parameters.now) }
-    ensures cause { Causes before result (O.faults out.old) (O.faults out.new) }
+    ensures cause { Causes O.may_fail O.takes_memory before result (O.faults out.old) (O.faults out.new) }
     ensures keeps { O.keeps out.old out.new }
 {
     let ended = put(before, out, b"(");
@@ -398,7 +398,7 @@ fn put_enclosed<O: Sink>(before: Ended, out: &mut O, parameters: &[CParameter]) 
 #[tactic(auto, using(lf_base::proofs::Chains::chains))]
 fn put_parameters<O: Sink>(before: Ended, out: &mut O, parameters: &[CParameter]) -> Ended
     ensures text { Puts before result (O.contents out.old) (O.contents out.new) (parameters_text parameters.now) }
-    ensures cause { Causes before result (O.faults out.old) (O.faults out.new) }
+    ensures cause { Causes O.may_fail O.takes_memory before result (O.faults out.old) (O.faults out.new) }
     ensures keeps { O.keeps out.old out.new }
 {
     match parameters {
@@ -416,7 +416,7 @@ fn put_head<O: Sink>(
     parameters: &[CParameter],
 ) -> Ended
     ensures text { Puts before result (O.contents out.old) (O.contents out.new) (head_text result_type.now name.now parameters.now) }
-    ensures cause { Causes before result (O.faults out.old) (O.faults out.new) }
+    ensures cause { Causes O.may_fail O.takes_memory before result (O.faults out.old) (O.faults out.new) }
     ensures keeps { O.keeps out.old out.new }
 {
     let ended = put_result(before, out, result_type);
@@ -428,7 +428,7 @@ fn put_head<O: Sink>(
 #[tactic(auto, using(lf_base::proofs::Chains::chains))]
 fn put_static<O: Sink>(before: Ended, out: &mut O, is_static: bool) -> Ended
     ensures text { Puts before result (O.contents out.old) (O.contents out.new) (static_text is_static) }
-    ensures cause { Causes before result (O.faults out.old) (O.faults out.new) }
+    ensures cause { Causes O.may_fail O.takes_memory before result (O.faults out.old) (O.faults out.new) }
     ensures keeps { O.keeps out.old out.new }
 {
     if is_static {
@@ -441,7 +441,7 @@ fn put_static<O: Sink>(before: Ended, out: &mut O, is_static: bool) -> Ended
 #[tactic(auto, using(lf_base::proofs::Chains::chains))]
 fn put_sized<O: Sink>(before: Ended, out: &mut O, kind: &CType, name: &Name, size: u64) -> Ended
     ensures text { Puts before result (O.contents out.old) (O.contents out.new) (sized_text kind.now name.now size) }
-    ensures cause { Causes before result (O.faults out.old) (O.faults out.new) }
+    ensures cause { Causes O.may_fail O.takes_memory before result (O.faults out.old) (O.faults out.new) }
     ensures keeps { O.keeps out.old out.new }
 {
     let ended = put_declared(before, out, kind, name);
@@ -452,7 +452,7 @@ fn put_sized<O: Sink>(before: Ended, out: &mut O, kind: &CType, name: &Name, siz
 
 fn put_line<O: Sink>(before: Ended, out: &mut O, object: &CObject) -> Ended
     ensures text { Puts before result (O.contents out.old) (O.contents out.new) (object_text object.now) }
-    ensures cause { Causes before result (O.faults out.old) (O.faults out.new) }
+    ensures cause { Causes O.may_fail O.takes_memory before result (O.faults out.old) (O.faults out.new) }
     ensures keeps { O.keeps out.old out.new }
 {
     match object {
@@ -464,7 +464,7 @@ fn put_line<O: Sink>(before: Ended, out: &mut O, object: &CObject) -> Ended
 #[tactic(auto, using(crate::proofs::Texts::loops))]
 fn put_lines<O: Sink>(before: Ended, out: &mut O, members: &[CObject]) -> Ended
     ensures text { Puts before result (O.contents out.old) (O.contents out.new) (joined (object_texts members.now)) }
-    ensures cause { Causes before result (O.faults out.old) (O.faults out.new) }
+    ensures cause { Causes O.may_fail O.takes_memory before result (O.faults out.old) (O.faults out.new) }
     ensures keeps { O.keeps out.old out.new }
 {
     let mut ended = before;
@@ -477,7 +477,7 @@ fn put_lines<O: Sink>(before: Ended, out: &mut O, members: &[CObject]) -> Ended
 #[tactic(auto, using(lf_base::proofs::Chains::chains))]
 fn put_structure<O: Sink>(before: Ended, out: &mut O, name: &Name, members: &[CObject]) -> Ended
     ensures text { Puts before result (O.contents out.old) (O.contents out.new) (structure_text name.now members.now) }
-    ensures cause { Causes before result (O.faults out.old) (O.faults out.new) }
+    ensures cause { Causes O.may_fail O.takes_memory before result (O.faults out.old) (O.faults out.new) }
     ensures keeps { O.keeps out.old out.new }
 {
     let ended = put(before, out, b"struct ");
@@ -490,7 +490,7 @@ fn put_structure<O: Sink>(before: Ended, out: &mut O, name: &Name, members: &[CO
 #[tactic(auto, using(lf_base::proofs::Chains::chains))]
 fn put_extern<O: Sink>(before: Ended, out: &mut O, is_extern: bool) -> Ended
     ensures text { Puts before result (O.contents out.old) (O.contents out.new) (extern_text is_extern) }
-    ensures cause { Causes before result (O.faults out.old) (O.faults out.new) }
+    ensures cause { Causes O.may_fail O.takes_memory before result (O.faults out.old) (O.faults out.new) }
     ensures keeps { O.keeps out.old out.new }
 {
     if is_extern {
@@ -503,7 +503,7 @@ fn put_extern<O: Sink>(before: Ended, out: &mut O, is_extern: bool) -> Ended
 #[tactic(auto, using(lf_base::proofs::Chains::chains))]
 fn put_static_pointer<O: Sink>(before: Ended, out: &mut O, kind: &CType, name: &Name) -> Ended
     ensures text { Puts before result (O.contents out.old) (O.contents out.new) (static_pointer_text kind.now name.now) }
-    ensures cause { Causes before result (O.faults out.old) (O.faults out.new) }
+    ensures cause { Causes O.may_fail O.takes_memory before result (O.faults out.old) (O.faults out.new) }
     ensures keeps { O.keeps out.old out.new }
 {
     let ended = put(before, out, b"static ");
@@ -514,7 +514,7 @@ fn put_static_pointer<O: Sink>(before: Ended, out: &mut O, kind: &CType, name: &
 #[tactic(auto, using(lf_base::proofs::Chains::chains))]
 fn put_item<O: Sink>(before: Ended, out: &mut O, item: &CItem) -> Ended
     ensures text { Puts before result (O.contents out.old) (O.contents out.new) (item_text item.now) }
-    ensures cause { Causes before result (O.faults out.old) (O.faults out.new) }
+    ensures cause { Causes O.may_fail O.takes_memory before result (O.faults out.old) (O.faults out.new) }
     ensures keeps { O.keeps out.old out.new }
 {
     match item {
@@ -560,7 +560,7 @@ fn put_item<O: Sink>(before: Ended, out: &mut O, item: &CItem) -> Ended
 #[tactic(auto, using(crate::proofs::Texts::loops))]
 fn put_items<O: Sink>(before: Ended, out: &mut O, items: &[CItem]) -> Ended
     ensures text { Puts before result (O.contents out.old) (O.contents out.new) (joined (item_texts items.now)) }
-    ensures cause { Causes before result (O.faults out.old) (O.faults out.new) }
+    ensures cause { Causes O.may_fail O.takes_memory before result (O.faults out.old) (O.faults out.new) }
     ensures keeps { O.keeps out.old out.new }
 {
     let mut ended = before;
@@ -573,7 +573,7 @@ fn put_items<O: Sink>(before: Ended, out: &mut O, items: &[CItem]) -> Ended
 #[tactic(auto, using(lf_base::proofs::Chains::chains))]
 fn put_file<O: Sink>(before: Ended, out: &mut O, file: &CFile) -> Ended
     ensures text { Puts before result (O.contents out.old) (O.contents out.new) (file_text file.now) }
-    ensures cause { Causes before result (O.faults out.old) (O.faults out.new) }
+    ensures cause { Causes O.may_fail O.takes_memory before result (O.faults out.old) (O.faults out.new) }
     ensures keeps { O.keeps out.old out.new }
 {
     let ended = put(before, out, HEADERS);
@@ -582,11 +582,14 @@ fn put_file<O: Sink>(before: Ended, out: &mut O, file: &CFile) -> Ended
 
 /// Appends the text of the file: the headers, and its items in order, each line without indentation
 /// (ISO/IEC 9899:1999, 6.9). A refused call appends a front of the text, and it answers `Failed` only where
-/// the sink's count of faults rose. It takes no memory itself.
+/// the sink's count of faults rose. It takes no memory itself: where the sink neither fails nor
+/// takes memory, the answer is Ok.
+#[tactic(auto, using(lf_base::proofs::Chains::never_refused))]
 pub fn print_c<O: Sink>(file: &CFile, out: &mut O) -> Result<(), PutFault>
     ensures ok { OnOk result (Appends (O.contents out.old) (O.contents out.new) (file_text file.now)) }
     ensures err { OnErr result (AppendsPart (O.contents out.old) (O.contents out.new) (file_text file.now)) }
-    ensures cause { HasCause (O.faults out.old) (O.faults out.new) result }
+    ensures cause { HasCause O.may_fail O.takes_memory (O.faults out.old) (O.faults out.new) result }
+    ensures whole { O.may_fail ≡ false → O.takes_memory ≡ false → result ≡ Ok tt }
     ensures keeps { O.keeps out.old out.new }
 {
     put_file(Ok(()), out, file)

@@ -1,5 +1,5 @@
 -- Why a call of the outside failed: only where its count of faults rose, and nothing else changes a count.
-use Rattle.std.specs.Prelude.{◌≡◌, ℕ, ◌+◌, ◌-◌, ◌^◌, ◌≤◌, min, Ok, Err}
+use Rattle.std.specs.Prelude.{◌≡◌, ℕ, ◌+◌, ◌-◌, ◌^◌, ◌≤◌, min, Bool, true, Ok, Err}
 use Rattle.std.specs.declared.result.Result.{Result}
 use Rattle.lf_base.specs.declared.fault.Failed.{Failed as SourceFailed}
 use Rattle.lf_base.specs.declared.fault.PutFault.{PutFault}
@@ -11,11 +11,12 @@ use Rattle.lf_base.specs.declared.fault.GetFault.TheVariants as reading
 abbrev pub Rose : ℕ → ℕ → Type 0
 Rose before now = min (before + 1) (2 ^ 64 - 1) ≤ now
 
--- A failure is counted, and nothing else changes the count.
-abbrev pub HasCause : {T : Type 0} → ℕ → ℕ → Result T PutFault → Type 0
-HasCause before now (Ok _) = now ≡ before
-HasCause before now (Err Memory) = now ≡ before
-HasCause before now (Err Failed) = Rose before now
+-- By whether a sink's calls may fail, and whether they take memory: a failure is counted, nothing else changes the count,
+-- and neither fault comes from a sink that has it not.
+abbrev pub HasCause : {T : Type 0} → Bool → Bool → ℕ → ℕ → Result T PutFault → Type 0
+HasCause may_fail takes_memory before now (Ok _) = now ≡ before
+HasCause may_fail takes_memory before now (Err Memory) = (takes_memory ≡ true) × (now ≡ before)
+HasCause may_fail takes_memory before now (Err Failed) = (may_fail ≡ true) × Rose before now
 
 -- the same of a store's read
 abbrev pub HasReadCause : {T : Type 0} → ℕ → ℕ → Result T GetFault → Type 0

@@ -1,4 +1,4 @@
-ghost use Rattle.std.specs.Prelude.{◌≡◌, ◌↔◌, ◌+◌, ◌-◌, ◌^◌, min, Contains, refl, Some, Err, [], IfOk, OnOk, OnErr};
+ghost use Rattle.std.specs.Prelude.{◌≡◌, ◌↔◌, ◌+◌, ◌-◌, ◌^◌, min, Contains, refl, Some, Err, [], IfOk, OnOk, OnErr, true};
 ghost use Rattle.std.proofs.Common.{◌∙◌};
 ghost use Rattle.lf_base.specs.Causes.{HasCause};
 ghost use Rattle.lf_base.specs.Contents.{Appends, AppendsPart};
@@ -51,6 +51,10 @@ impl Sink for MemSink {
 
     ghost faults = { λ s. s.faults };
 
+    ghost may_fail = { true };
+
+    ghost takes_memory = { true };
+
     ghost keeps = { λ a b. b.calls.fails ≡ a.calls.fails };
 
     ghost keeps_same = { λ a. refl };
@@ -61,7 +65,7 @@ impl Sink for MemSink {
         ensures ok { OnOk result (Appends (Some self.old.bytes) (Some self.new.bytes) piece.now) }
         ensures err { OnErr result (AppendsPart (Some self.old.bytes) (Some self.new.bytes) piece.now) }
         ensures keeps { self.new.calls.fails ≡ self.old.calls.fails }
-        ensures cause { HasCause self.old.faults self.new.faults result }
+        ensures cause { HasCause true true self.old.faults self.new.faults result }
         ensures failed { (result ≡ Err PutFault.Failed) ↔ Contains self.old.calls.fails self.old.calls.next }
         ensures next { self.new.calls.next ≡ min (self.old.calls.next + 1) (2 ^ 64 - 1) }
         ensures nothing { (result ≡ Err PutFault.Failed) → self.new.bytes ≡ self.old.bytes }

@@ -1,4 +1,4 @@
-ghost use Rattle.std.specs.Prelude.{◌≡◌, ◌↔◌, ◌+◌, ◌-◌, ◌^◌, min, Contains, IsTrue, Some, None, Err, map, string_bytes, IsSome, IfOk, OnOk, OnErr};
+ghost use Rattle.std.specs.Prelude.{◌≡◌, ◌↔◌, ◌+◌, ◌-◌, ◌^◌, min, Contains, IsTrue, Some, None, Err, map, string_bytes, IsSome, IfOk, OnOk, OnErr, true};
 ghost use Rattle.std.specs.Bool.{OnTrue, OnFalse};
 ghost use Rattle.std.specs.FinMap.{get};
 ghost use Rattle.std.specs.Option.{option_copied};
@@ -75,6 +75,10 @@ impl Sink for MemStore {
 
     ghost faults = { mem_faults };
 
+    ghost may_fail = { true };
+
+    ghost takes_memory = { true };
+
     ghost keeps = { MemKeeps };
 
     ghost keeps_same = { mem_keeps_same_lem };
@@ -85,7 +89,7 @@ impl Sink for MemStore {
         ensures ok { OnOk result (Appends (mem_contents self.old) (mem_contents self.new) piece.now) }
         ensures err { OnErr result (AppendsPart (mem_contents self.old) (mem_contents self.new) piece.now) }
         ensures keeps { MemKeeps self.old self.new }
-        ensures cause { HasCause (mem_faults self.old) (mem_faults self.new) result }
+        ensures cause { HasCause true true (mem_faults self.old) (mem_faults self.new) result }
         ensures failed { (result ≡ Err PutFault.Failed) ↔ Contains (mem_calls self.old).fails (mem_calls self.old).next }
         ensures next { (mem_calls self.new).next ≡ min ((mem_calls self.old).next + 1) (2 ^ 64 - 1) }
         ensures nothing { (result ≡ Err PutFault.Failed) → mem_contents self.new ≡ mem_contents self.old }
@@ -134,7 +138,7 @@ impl Store for MemStore {
         ensures err { OnErr result (mem_pending self.new ≡ None) }
         ensures files { Some (mem_files self.new) ≡ Some (mem_files self.old) }
         ensures read_faults { mem_read_faults self.new ≡ mem_read_faults self.old }
-        ensures cause { HasCause (mem_faults self.old) (mem_faults self.new) result }
+        ensures cause { HasCause true true (mem_faults self.old) (mem_faults self.new) result }
         ensures failed { (result ≡ Err PutFault.Failed) ↔ Contains (mem_calls self.old).fails (mem_calls self.old).next }
         ensures next { (mem_calls self.new).next ≡ min ((mem_calls self.old).next + 1) (2 ^ 64 - 1) }
         ensures fails { (mem_calls self.new).fails ≡ (mem_calls self.old).fails }
@@ -152,7 +156,7 @@ impl Store for MemStore {
         ensures err { OnErr result (Some (mem_files self.new) ≡ Some (mem_files self.old)) }
         ensures pending { mem_pending self.new ≡ None }
         ensures read_faults { mem_read_faults self.new ≡ mem_read_faults self.old }
-        ensures cause { HasCause (mem_faults self.old) (mem_faults self.new) result }
+        ensures cause { HasCause true true (mem_faults self.old) (mem_faults self.new) result }
         ensures failed { (result ≡ Err PutFault.Failed) ↔ Contains (mem_calls self.old).fails (mem_calls self.old).next }
         ensures next { (mem_calls self.new).next ≡ min ((mem_calls self.old).next + 1) (2 ^ 64 - 1) }
         ensures fails { (mem_calls self.new).fails ≡ (mem_calls self.old).fails }

@@ -34,7 +34,7 @@ pub trait Store: Sink {
         ensures err { OnErr result (pending self.new ≡ None) }
         ensures files { files self.new ≡ files self.old }
         ensures read_faults { read_faults self.new ≡ read_faults self.old }
-        ensures cause { HasCause (Self.faults self.old) (Self.faults self.new) result };
+        ensures cause { HasCause Self.may_fail Self.takes_memory (Self.faults self.old) (Self.faults self.new) result };
 
     /// Puts the pending file among the files, in place of an older one of its name. A refused call
     /// leaves the files as they were and drops the pending file.
@@ -44,7 +44,7 @@ pub trait Store: Sink {
         ensures err { OnErr result (files self.new ≡ files self.old) }
         ensures pending { pending self.new ≡ None }
         ensures read_faults { read_faults self.new ≡ read_faults self.old }
-        ensures cause { HasCause (Self.faults self.old) (Self.faults self.new) result };
+        ensures cause { HasCause Self.may_fail Self.takes_memory (Self.faults self.old) (Self.faults self.new) result };
 
     /// A `put` keeps the files, the pending file's name and the count of failed reads.
     ghost keeps_files: { (a b : Self) → Self.keeps a b → (files b ≡ files a) × (pending b ≡ pending a) × (read_faults b ≡ read_faults a) };

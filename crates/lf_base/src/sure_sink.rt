@@ -1,4 +1,4 @@
-ghost use Rattle.std.specs.Prelude.{◌≡◌, Some, [], IfOk};
+ghost use Rattle.std.specs.Prelude.{◌≡◌, Some, [], IfOk, true, false};
 
 use crate::fault::{Memory, PutFault};
 use crate::sink::Sink;
@@ -41,6 +41,10 @@ impl Sink for SureSink {
     ghost contents = { λ s. Some s };
 
     ghost faults = { λ _. 0 };
+
+    ghost may_fail = { false };
+
+    ghost takes_memory = { true };
 
     ghost keeps = { λ _ _. Unit {0} };
 

@@ -1,4 +1,4 @@
-ghost use Rattle.std.specs.Prelude.{◌≡◌, refl, Some, None, map, string_bytes, IfOk};
+ghost use Rattle.std.specs.Prelude.{◌≡◌, refl, Some, None, map, string_bytes, IfOk, true, false};
 ghost use Rattle.std.specs.Ordering.{nat_cmp};
 ghost use Rattle.std.specs.Cmp.Lexicographic.{slice_cmp};
 ghost use Rattle.std.specs.FinMap.{find, get};
@@ -90,6 +90,10 @@ impl Sink for SureStore {
     ghost contents = { λ s. bytes_of s.pending };
 
     ghost faults = { λ _. 0 };
+
+    ghost may_fail = { false };
+
+    ghost takes_memory = { true };
 
     ghost keeps = { Keeps };
 

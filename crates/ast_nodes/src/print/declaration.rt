@@ -15,7 +15,7 @@ use lf_base::{Name, Sink};
 
 #[tactic(auto, using(crate::proofs::Chains::chains))]
 fn put_led_bound<O: Sink>(before: Ended, out: &mut O, lead: &[u8], bound: &Bound) -> Ended
-    ensures { Prints O.contents O.faults O.keeps before result out.old out.new (joined (lead.now ∷ bound_text bound.now ∷ [])) }
+    ensures { Prints O.contents O.faults O.may_fail O.takes_memory O.keeps before result out.old out.new (joined (lead.now ∷ bound_text bound.now ∷ [])) }
 {
     let ended = put(before, out, lead);
     put_node(
@@ -31,7 +31,7 @@ fn put_led_bound<O: Sink>(before: Ended, out: &mut O, lead: &[u8], bound: &Bound
 
 #[tactic(auto, using(crate::proofs::Chains::lists))]
 fn put_bounds<O: Sink>(before: Ended, out: &mut O, bounds: &[Bound]) -> Ended
-    ensures { Prints O.contents O.faults O.keeps before result out.old out.new (behind_blank (listed (bound_texts bounds.now))) }
+    ensures { Prints O.contents O.faults O.may_fail O.takes_memory O.keeps before result out.old out.new (behind_blank (listed (bound_texts bounds.now))) }
 {
     let mut ended = put(before, out, b" [");
     let mut lead: &[u8] = b"";
@@ -44,14 +44,14 @@ fn put_bounds<O: Sink>(before: Ended, out: &mut O, bounds: &[Bound]) -> Ended
 
 #[tactic(auto, using(crate::proofs::Chains::chains))]
 fn put_star<O: Sink>(before: Ended, out: &mut O) -> Ended
-    ensures { Prints O.contents O.faults O.keeps before result out.old out.new (behind_blank (node (codes "Star") [])) }
+    ensures { Prints O.contents O.faults O.may_fail O.takes_memory O.keeps before result out.old out.new (behind_blank (node (codes "Star") [])) }
 {
     let ended = put(before, out, b" ");
     put_node(ended, out, b"Star", &[])
 }
 
 fn put_optional_length<O: Sink>(before: Ended, out: &mut O, length: &Option<Length>) -> Ended
-    ensures { Prints O.contents O.faults O.keeps before result out.old out.new (behind_blank (optional (option_map length_text length.now))) }
+    ensures { Prints O.contents O.faults O.may_fail O.takes_memory O.keeps before result out.old out.new (behind_blank (optional (option_map length_text length.now))) }
 {
     match length {
         None => put_missing(before, out),
@@ -62,7 +62,7 @@ fn put_optional_length<O: Sink>(before: Ended, out: &mut O, length: &Option<Leng
 
 #[tactic(auto, using(crate::proofs::Chains::chains))]
 fn put_character<O: Sink>(before: Ended, out: &mut O, length: &Option<Length>) -> Ended
-    ensures { Prints O.contents O.faults O.keeps before result out.old out.new (node (codes "Character") (optional (option_map length_text length.now) ∷ [])) }
+    ensures { Prints O.contents O.faults O.may_fail O.takes_memory O.keeps before result out.old out.new (node (codes "Character") (optional (option_map length_text length.now) ∷ [])) }
 {
     let ended = put_tag(before, out, b"Character");
     let ended = put_optional_length(ended, out, length);
@@ -70,7 +70,7 @@ fn put_character<O: Sink>(before: Ended, out: &mut O, length: &Option<Length>) -
 }
 
 fn put_type<O: Sink>(before: Ended, out: &mut O, type_spec: &TypeSpec) -> Ended
-    ensures { Prints O.contents O.faults O.keeps before result out.old out.new (type_text type_spec.now) }
+    ensures { Prints O.contents O.faults O.may_fail O.takes_memory O.keeps before result out.old out.new (type_text type_spec.now) }
 {
     match type_spec {
         TypeSpec::Integer { kind } => put_node(
@@ -87,7 +87,7 @@ fn put_type<O: Sink>(before: Ended, out: &mut O, type_spec: &TypeSpec) -> Ended
 
 #[tactic(auto, using(crate::proofs::Chains::chains))]
 fn put_led_type<O: Sink>(before: Ended, out: &mut O, lead: &[u8], type_spec: &TypeSpec) -> Ended
-    ensures { Prints O.contents O.faults O.keeps before result out.old out.new (joined (lead.now ∷ type_text type_spec.now ∷ [])) }
+    ensures { Prints O.contents O.faults O.may_fail O.takes_memory O.keeps before result out.old out.new (joined (lead.now ∷ type_text type_spec.now ∷ [])) }
 {
     let ended = put(before, out, lead);
     put_type(ended, out, type_spec)
@@ -98,7 +98,7 @@ pub(crate) fn put_optional_type<O: Sink>(
     out: &mut O,
     type_spec: &Option<TypeSpec>,
 ) -> Ended
-    ensures { Prints O.contents O.faults O.keeps before result out.old out.new (behind_blank (optional (option_map type_text type_spec.now))) }
+    ensures { Prints O.contents O.faults O.may_fail O.takes_memory O.keeps before result out.old out.new (behind_blank (optional (option_map type_text type_spec.now))) }
 {
     match type_spec {
         Some(type_spec) => put_led_type(before, out, b" ", type_spec),
@@ -108,7 +108,7 @@ pub(crate) fn put_optional_type<O: Sink>(
 
 #[tactic(auto, using(crate::proofs::Chains::chains))]
 fn put_dimension<O: Sink>(before: Ended, out: &mut O, bounds: &[Bound]) -> Ended
-    ensures { Prints O.contents O.faults O.keeps before result out.old out.new (node (codes "Dimension") (listed (bound_texts bounds.now) ∷ [])) }
+    ensures { Prints O.contents O.faults O.may_fail O.takes_memory O.keeps before result out.old out.new (node (codes "Dimension") (listed (bound_texts bounds.now) ∷ [])) }
 {
     let ended = put_tag(before, out, b"Dimension");
     let ended = put_bounds(ended, out, bounds);
@@ -116,7 +116,7 @@ fn put_dimension<O: Sink>(before: Ended, out: &mut O, bounds: &[Bound]) -> Ended
 }
 
 fn put_attribute<O: Sink>(before: Ended, out: &mut O, attribute: &Attribute) -> Ended
-    ensures { Prints O.contents O.faults O.keeps before result out.old out.new (attribute_text attribute.now) }
+    ensures { Prints O.contents O.faults O.may_fail O.takes_memory O.keeps before result out.old out.new (attribute_text attribute.now) }
 {
     match attribute {
         Attribute::Parameter => put_node(before, out, b"Parameter", &[]),
@@ -140,7 +140,7 @@ fn put_led_attribute<O: Sink>(
     lead: &[u8],
     attribute: &Attribute,
 ) -> Ended
-    ensures { Prints O.contents O.faults O.keeps before result out.old out.new (joined (lead.now ∷ attribute_text attribute.now ∷ [])) }
+    ensures { Prints O.contents O.faults O.may_fail O.takes_memory O.keeps before result out.old out.new (joined (lead.now ∷ attribute_text attribute.now ∷ [])) }
 {
     let ended = put(before, out, lead);
     put_attribute(ended, out, attribute)
@@ -148,7 +148,7 @@ fn put_led_attribute<O: Sink>(
 
 #[tactic(auto, using(crate::proofs::Chains::lists))]
 fn put_attributes<O: Sink>(before: Ended, out: &mut O, attributes: &[Attribute]) -> Ended
-    ensures { Prints O.contents O.faults O.keeps before result out.old out.new (behind_blank (listed (attribute_texts attributes.now))) }
+    ensures { Prints O.contents O.faults O.may_fail O.takes_memory O.keeps before result out.old out.new (behind_blank (listed (attribute_texts attributes.now))) }
 {
     let mut ended = put(before, out, b" [");
     let mut lead: &[u8] = b"";
@@ -161,7 +161,7 @@ fn put_attributes<O: Sink>(before: Ended, out: &mut O, attributes: &[Attribute])
 
 #[tactic(auto, using(crate::proofs::Chains::chains))]
 fn put_entity<O: Sink>(before: Ended, out: &mut O, entity: &Entity) -> Ended
-    ensures { Prints O.contents O.faults O.keeps before result out.old out.new (entity_text entity.now) }
+    ensures { Prints O.contents O.faults O.may_fail O.takes_memory O.keeps before result out.old out.new (entity_text entity.now) }
 {
     let ended = put_tag(before, out, b"Entity");
     let ended = put_name(ended, out, &entity.name);
@@ -172,7 +172,7 @@ fn put_entity<O: Sink>(before: Ended, out: &mut O, entity: &Entity) -> Ended
 
 #[tactic(auto, using(crate::proofs::Chains::chains))]
 fn put_led_entity<O: Sink>(before: Ended, out: &mut O, lead: &[u8], entity: &Entity) -> Ended
-    ensures { Prints O.contents O.faults O.keeps before result out.old out.new (joined (lead.now ∷ entity_text entity.now ∷ [])) }
+    ensures { Prints O.contents O.faults O.may_fail O.takes_memory O.keeps before result out.old out.new (joined (lead.now ∷ entity_text entity.now ∷ [])) }
 {
     let ended = put(before, out, lead);
     put_entity(ended, out, entity)
@@ -180,7 +180,7 @@ fn put_led_entity<O: Sink>(before: Ended, out: &mut O, lead: &[u8], entity: &Ent
 
 #[tactic(auto, using(crate::proofs::Chains::lists))]
 fn put_entities<O: Sink>(before: Ended, out: &mut O, entities: &[Entity]) -> Ended
-    ensures { Prints O.contents O.faults O.keeps before result out.old out.new (behind_blank (listed (entity_texts entities.now))) }
+    ensures { Prints O.contents O.faults O.may_fail O.takes_memory O.keeps before result out.old out.new (behind_blank (listed (entity_texts entities.now))) }
 {
     let mut ended = put(before, out, b" [");
     let mut lead: &[u8] = b"";
@@ -193,7 +193,7 @@ fn put_entities<O: Sink>(before: Ended, out: &mut O, entities: &[Entity]) -> End
 
 #[tactic(auto, using(crate::proofs::Chains::chains))]
 fn put_vars<O: Sink>(before: Ended, out: &mut O, vars: &Vars) -> Ended
-    ensures { Prints O.contents O.faults O.keeps before result out.old out.new (vars_text vars.now) }
+    ensures { Prints O.contents O.faults O.may_fail O.takes_memory O.keeps before result out.old out.new (vars_text vars.now) }
 {
     let ended = put_tag(before, out, b"Vars");
     let ended = put_number(ended, out, vars.line);
@@ -205,7 +205,7 @@ fn put_vars<O: Sink>(before: Ended, out: &mut O, vars: &Vars) -> Ended
 
 #[tactic(auto, using(crate::proofs::Chains::chains))]
 fn put_component<O: Sink>(before: Ended, out: &mut O, lead: &[u8], vars: &Vars) -> Ended
-    ensures { Prints O.contents O.faults O.keeps before result out.old out.new (joined (lead.now ∷ vars_text vars.now ∷ [])) }
+    ensures { Prints O.contents O.faults O.may_fail O.takes_memory O.keeps before result out.old out.new (joined (lead.now ∷ vars_text vars.now ∷ [])) }
 {
     let ended = put(before, out, lead);
     put_vars(ended, out, vars)
@@ -213,7 +213,7 @@ fn put_component<O: Sink>(before: Ended, out: &mut O, lead: &[u8], vars: &Vars) 
 
 #[tactic(auto, using(crate::proofs::Chains::lists))]
 fn put_components<O: Sink>(before: Ended, out: &mut O, components: &[Vars]) -> Ended
-    ensures { Prints O.contents O.faults O.keeps before result out.old out.new (behind_blank (listed (component_texts components.now))) }
+    ensures { Prints O.contents O.faults O.may_fail O.takes_memory O.keeps before result out.old out.new (behind_blank (listed (component_texts components.now))) }
 {
     let mut ended = put(before, out, b" [");
     let mut lead: &[u8] = b"";
@@ -226,7 +226,7 @@ fn put_components<O: Sink>(before: Ended, out: &mut O, components: &[Vars]) -> E
 
 #[tactic(auto, using(crate::proofs::Chains::chains))]
 fn put_led_rename<O: Sink>(before: Ended, out: &mut O, lead: &[u8], rename: &Rename) -> Ended
-    ensures { Prints O.contents O.faults O.keeps before result out.old out.new (joined (lead.now ∷ rename_text rename.now ∷ [])) }
+    ensures { Prints O.contents O.faults O.may_fail O.takes_memory O.keeps before result out.old out.new (joined (lead.now ∷ rename_text rename.now ∷ [])) }
 {
     let ended = put(before, out, lead);
     put_node(
@@ -239,7 +239,7 @@ fn put_led_rename<O: Sink>(before: Ended, out: &mut O, lead: &[u8], rename: &Ren
 
 #[tactic(auto, using(crate::proofs::Chains::lists))]
 fn put_renames<O: Sink>(before: Ended, out: &mut O, renames: &[Rename]) -> Ended
-    ensures { Prints O.contents O.faults O.keeps before result out.old out.new (behind_blank (listed (rename_texts renames.now))) }
+    ensures { Prints O.contents O.faults O.may_fail O.takes_memory O.keeps before result out.old out.new (behind_blank (listed (rename_texts renames.now))) }
 {
     let mut ended = put(before, out, b" [");
     let mut lead: &[u8] = b"";
@@ -252,7 +252,7 @@ fn put_renames<O: Sink>(before: Ended, out: &mut O, renames: &[Rename]) -> Ended
 
 #[tactic(auto, using(crate::proofs::Chains::chains))]
 fn put_use<O: Sink>(before: Ended, out: &mut O, used: &UseStmt) -> Ended
-    ensures { Prints O.contents O.faults O.keeps before result out.old out.new (use_text used.now) }
+    ensures { Prints O.contents O.faults O.may_fail O.takes_memory O.keeps before result out.old out.new (use_text used.now) }
 {
     let ended = put_tag(before, out, b"Use");
     let ended = put_number(ended, out, used.line);
@@ -271,7 +271,7 @@ fn put_type_definition<O: Sink>(
     access: u8,
     components: &[Vars],
 ) -> Ended
-    ensures { Prints O.contents O.faults O.keeps before result out.old out.new (node (codes "TypeDef") (decimal line ∷ name.now ∷ decimal access ∷ listed (component_texts components.now) ∷ [])) }
+    ensures { Prints O.contents O.faults O.may_fail O.takes_memory O.keeps before result out.old out.new (node (codes "TypeDef") (decimal line ∷ name.now ∷ decimal access ∷ listed (component_texts components.now) ∷ [])) }
 {
     let ended = put_tag(before, out, b"TypeDef");
     let ended = put_number(ended, out, line);
@@ -282,7 +282,7 @@ fn put_type_definition<O: Sink>(
 }
 
 fn put_decl<O: Sink>(before: Ended, out: &mut O, decl: &Decl) -> Ended
-    ensures { Prints O.contents O.faults O.keeps before result out.old out.new (decl_text decl.now) }
+    ensures { Prints O.contents O.faults O.may_fail O.takes_memory O.keeps before result out.old out.new (decl_text decl.now) }
 {
     match decl {
         Decl::Use { used } => put_use(before, out, used),
@@ -324,7 +324,7 @@ fn put_decl<O: Sink>(before: Ended, out: &mut O, decl: &Decl) -> Ended
 
 #[tactic(auto, using(crate::proofs::Chains::chains))]
 fn put_led_decl<O: Sink>(before: Ended, out: &mut O, lead: &[u8], decl: &Decl) -> Ended
-    ensures { Prints O.contents O.faults O.keeps before result out.old out.new (joined (lead.now ∷ decl_text decl.now ∷ [])) }
+    ensures { Prints O.contents O.faults O.may_fail O.takes_memory O.keeps before result out.old out.new (joined (lead.now ∷ decl_text decl.now ∷ [])) }
 {
     let ended = put(before, out, lead);
     put_decl(ended, out, decl)
@@ -332,7 +332,7 @@ fn put_led_decl<O: Sink>(before: Ended, out: &mut O, lead: &[u8], decl: &Decl) -
 
 #[tactic(auto, using(crate::proofs::Chains::lists))]
 pub(crate) fn put_decls<O: Sink>(before: Ended, out: &mut O, decls: &[Decl]) -> Ended
-    ensures { Prints O.contents O.faults O.keeps before result out.old out.new (behind_blank (listed (decl_texts decls.now))) }
+    ensures { Prints O.contents O.faults O.may_fail O.takes_memory O.keeps before result out.old out.new (behind_blank (listed (decl_texts decls.now))) }
 {
     let mut ended = put(before, out, b" [");
     let mut lead: &[u8] = b"";

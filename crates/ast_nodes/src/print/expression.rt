@@ -18,7 +18,7 @@ use sqlite_items::{Boxed, Items};
 #[cycle(expr)]
 #[tactic(auto, using(crate::proofs::Texts::texts))]
 fn put_expr<O: Sink>(before: Ended, out: &mut O, expr: &Expr) -> Ended
-    ensures { Prints O.contents O.faults O.keeps before result out.old out.new (expr_text expr.now) }
+    ensures { Prints O.contents O.faults O.may_fail O.takes_memory O.keeps before result out.old out.new (expr_text expr.now) }
 {
     match expr {
         Expr::Int { digits, suffix } => {
@@ -92,7 +92,7 @@ fn put_expr<O: Sink>(before: Ended, out: &mut O, expr: &Expr) -> Ended
 #[cycle(expr)]
 #[tactic(auto, using(crate::proofs::Chains::chains))]
 fn put_behind_blank<O: Sink>(before: Ended, out: &mut O, expr: &Expr) -> Ended
-    ensures { Prints O.contents O.faults O.keeps before result out.old out.new (behind_blank (expr_text expr.now)) }
+    ensures { Prints O.contents O.faults O.may_fail O.takes_memory O.keeps before result out.old out.new (behind_blank (expr_text expr.now)) }
 {
     let ended = put(before, out, b" ");
     put_expr(ended, out, expr)
@@ -101,7 +101,7 @@ fn put_behind_blank<O: Sink>(before: Ended, out: &mut O, expr: &Expr) -> Ended
 // An expression behind a blank. The commonest shapes have the blank in their first piece.
 #[cycle(expr)]
 pub(crate) fn put_value<O: Sink>(before: Ended, out: &mut O, expr: &Expr) -> Ended
-    ensures { Prints O.contents O.faults O.keeps before result out.old out.new (behind_blank (expr_text expr.now)) }
+    ensures { Prints O.contents O.faults O.may_fail O.takes_memory O.keeps before result out.old out.new (behind_blank (expr_text expr.now)) }
 {
     match expr {
         Expr::Int { digits, suffix } => put_literal(before, out, digits.as_slice(), *suffix),
@@ -128,7 +128,7 @@ pub(crate) fn put_value<O: Sink>(before: Ended, out: &mut O, expr: &Expr) -> End
 
 #[cycle(expr)]
 pub(crate) fn put_operand<O: Sink>(before: Ended, out: &mut O, operand: &Boxed<Expr>) -> Ended
-    ensures { Prints O.contents O.faults O.keeps before result out.old out.new (behind_blank (expr_text operand.now)) }
+    ensures { Prints O.contents O.faults O.may_fail O.takes_memory O.keeps before result out.old out.new (behind_blank (expr_text operand.now)) }
 {
     put_value(before, out, operand.get())
 }
@@ -139,7 +139,7 @@ pub(crate) fn put_optional_operand<O: Sink>(
     out: &mut O,
     expr: &Option<Boxed<Expr>>,
 ) -> Ended
-    ensures { Prints O.contents O.faults O.keeps before result out.old out.new (behind_blank (optional (option_map expr_text expr.now))) }
+    ensures { Prints O.contents O.faults O.may_fail O.takes_memory O.keeps before result out.old out.new (behind_blank (optional (option_map expr_text expr.now))) }
 {
     match expr {
         Some(expr) => put_value(before, out, expr.get()),
@@ -149,7 +149,7 @@ pub(crate) fn put_optional_operand<O: Sink>(
 
 #[cycle(expr)]
 fn put_items<O: Sink>(before: Ended, out: &mut O, items: &Items<Expr>) -> Ended
-    ensures { Prints O.contents O.faults O.keeps before result out.old out.new (behind_blank (listed (expr_texts items.now))) }
+    ensures { Prints O.contents O.faults O.may_fail O.takes_memory O.keeps before result out.old out.new (behind_blank (listed (expr_texts items.now))) }
 {
     put_exprs(before, out, items.as_slice())
 }
@@ -157,7 +157,7 @@ fn put_items<O: Sink>(before: Ended, out: &mut O, items: &Items<Expr>) -> Ended
 // An expression of a list. A blank stands in front of each but the first.
 #[cycle(expr)]
 fn put_listed<O: Sink>(before: Ended, out: &mut O, is_first: bool, expr: &Expr) -> Ended
-    ensures { Prints O.contents O.faults O.keeps before result out.old out.new (joined (lead is_first ∷ expr_text expr.now ∷ [])) }
+    ensures { Prints O.contents O.faults O.may_fail O.takes_memory O.keeps before result out.old out.new (joined (lead is_first ∷ expr_text expr.now ∷ [])) }
 {
     if is_first {
         put_expr(before, out, expr)
@@ -169,7 +169,7 @@ fn put_listed<O: Sink>(before: Ended, out: &mut O, is_first: bool, expr: &Expr) 
 #[cycle(expr)]
 #[tactic(auto, using(crate::proofs::Chains::lists))]
 pub(crate) fn put_exprs<O: Sink>(before: Ended, out: &mut O, exprs: &[Expr]) -> Ended
-    ensures { Prints O.contents O.faults O.keeps before result out.old out.new (behind_blank (listed (expr_texts exprs.now))) }
+    ensures { Prints O.contents O.faults O.may_fail O.takes_memory O.keeps before result out.old out.new (behind_blank (listed (expr_texts exprs.now))) }
 {
     let mut ended = put(before, out, b" [");
     let mut is_first = true;
@@ -183,7 +183,7 @@ pub(crate) fn put_exprs<O: Sink>(before: Ended, out: &mut O, exprs: &[Expr]) -> 
 #[cycle(expr)]
 #[tactic(auto, using(crate::proofs::Chains::chains))]
 fn put_all_parts<O: Sink>(before: Ended, out: &mut O, parts: &[RefPart]) -> Ended
-    ensures { Prints O.contents O.faults O.keeps before result out.old out.new (node (codes "Ref") (listed (part_texts parts.now) ∷ [])) }
+    ensures { Prints O.contents O.faults O.may_fail O.takes_memory O.keeps before result out.old out.new (node (codes "Ref") (listed (part_texts parts.now) ∷ [])) }
 {
     let ended = put_opened(before, out, b"(Ref");
     let ended = put_parts(ended, out, parts);
@@ -212,7 +212,7 @@ fn only_name(parts: &[RefPart]) -> Option<&Name>
 // One name is the commonest designator.
 #[cycle(expr)]
 fn put_designator<O: Sink>(before: Ended, out: &mut O, designator: &Designator) -> Ended
-    ensures { Prints O.contents O.faults O.keeps before result out.old out.new (designator_text designator.now) }
+    ensures { Prints O.contents O.faults O.may_fail O.takes_memory O.keeps before result out.old out.new (designator_text designator.now) }
 {
     match only_name(designator.parts.as_slice()) {
         Some(name) => put_between(before, out, b"(Ref [(Part ", name.bytes(), b")])"),
@@ -223,7 +223,7 @@ fn put_designator<O: Sink>(before: Ended, out: &mut O, designator: &Designator) 
 #[cycle(expr)]
 #[tactic(auto, using(crate::proofs::Texts::texts))]
 fn put_part<O: Sink>(before: Ended, out: &mut O, part: &RefPart) -> Ended
-    ensures { Prints O.contents O.faults O.keeps before result out.old out.new (part_text part.now) }
+    ensures { Prints O.contents O.faults O.may_fail O.takes_memory O.keeps before result out.old out.new (part_text part.now) }
 {
     match part {
         RefPart::Part { name } => {
@@ -242,7 +242,7 @@ fn put_part<O: Sink>(before: Ended, out: &mut O, part: &RefPart) -> Ended
 #[cycle(expr)]
 #[tactic(auto, using(crate::proofs::Chains::chains))]
 fn put_led_part<O: Sink>(before: Ended, out: &mut O, lead: &[u8], part: &RefPart) -> Ended
-    ensures { Prints O.contents O.faults O.keeps before result out.old out.new (joined (lead.now ∷ part_text part.now ∷ [])) }
+    ensures { Prints O.contents O.faults O.may_fail O.takes_memory O.keeps before result out.old out.new (joined (lead.now ∷ part_text part.now ∷ [])) }
 {
     let ended = put(before, out, lead);
     put_part(ended, out, part)
@@ -251,7 +251,7 @@ fn put_led_part<O: Sink>(before: Ended, out: &mut O, lead: &[u8], part: &RefPart
 #[cycle(expr)]
 #[tactic(auto, using(crate::proofs::Chains::lists))]
 fn put_parts<O: Sink>(before: Ended, out: &mut O, parts: &[RefPart]) -> Ended
-    ensures { Prints O.contents O.faults O.keeps before result out.old out.new (behind_blank (listed (part_texts parts.now))) }
+    ensures { Prints O.contents O.faults O.may_fail O.takes_memory O.keeps before result out.old out.new (behind_blank (listed (part_texts parts.now))) }
 {
     let mut ended = put(before, out, b" [");
     let mut lead: &[u8] = b"";
@@ -265,7 +265,7 @@ fn put_parts<O: Sink>(before: Ended, out: &mut O, parts: &[RefPart]) -> Ended
 #[cycle(expr)]
 #[tactic(auto, using(crate::proofs::Chains::chains))]
 fn put_led_parts<O: Sink>(before: Ended, out: &mut O, parts: &[RefPart]) -> Ended
-    ensures { Prints O.contents O.faults O.keeps before result out.old out.new (behind_blank (node (codes "Ref") (listed (part_texts parts.now) ∷ []))) }
+    ensures { Prints O.contents O.faults O.may_fail O.takes_memory O.keeps before result out.old out.new (behind_blank (node (codes "Ref") (listed (part_texts parts.now) ∷ []))) }
 {
     let ended = put(before, out, b" ");
     put_all_parts(ended, out, parts)
@@ -274,7 +274,7 @@ fn put_led_parts<O: Sink>(before: Ended, out: &mut O, parts: &[RefPart]) -> Ende
 // A name and the part behind it.
 #[cycle(expr)]
 fn put_pair<O: Sink>(before: Ended, out: &mut O, name: &Name, part: &RefPart) -> Ended
-    ensures { Prints O.contents O.faults O.keeps before result out.old out.new (behind_blank (node (codes "Ref") (listed (node (codes "Part") (name.now ∷ []) ∷ part_text part.now ∷ []) ∷ []))) }
+    ensures { Prints O.contents O.faults O.may_fail O.takes_memory O.keeps before result out.old out.new (behind_blank (node (codes "Ref") (listed (node (codes "Part") (name.now ∷ []) ∷ part_text part.now ∷ []) ∷ []))) }
 {
     let ended = put_between(before, out, b" (Ref [(Part ", name.bytes(), b") ");
     let ended = put_part(ended, out, part);
@@ -284,7 +284,7 @@ fn put_pair<O: Sink>(before: Ended, out: &mut O, name: &Name, part: &RefPart) ->
 // A designator that is not one name, behind a blank.
 #[cycle(expr)]
 fn put_longer<O: Sink>(before: Ended, out: &mut O, parts: &[RefPart]) -> Ended
-    ensures { Prints O.contents O.faults O.keeps before result out.old out.new (behind_blank (node (codes "Ref") (listed (part_texts parts.now) ∷ []))) }
+    ensures { Prints O.contents O.faults O.may_fail O.takes_memory O.keeps before result out.old out.new (behind_blank (node (codes "Ref") (listed (part_texts parts.now) ∷ []))) }
 {
     match parts {
         [first, second] => match name_of(first) {
@@ -298,7 +298,7 @@ fn put_longer<O: Sink>(before: Ended, out: &mut O, parts: &[RefPart]) -> Ended
 // A designator behind a blank.
 #[cycle(expr)]
 pub(crate) fn put_place<O: Sink>(before: Ended, out: &mut O, place: &Designator) -> Ended
-    ensures { Prints O.contents O.faults O.keeps before result out.old out.new (behind_blank (designator_text place.now)) }
+    ensures { Prints O.contents O.faults O.may_fail O.takes_memory O.keeps before result out.old out.new (behind_blank (designator_text place.now)) }
 {
     match only_name(place.parts.as_slice()) {
         Some(name) => put_between(before, out, b" (Ref [(Part ", name.bytes(), b")])"),

@@ -30,7 +30,7 @@ pub(crate) enum Field<'a> {
 }
 
 pub(crate) fn put_optional_expr<O: Sink>(before: Ended, out: &mut O, expr: &Option<Expr>) -> Ended
-    ensures { Prints O.contents O.faults O.keeps before result out.old out.new (behind_blank (optional (option_map expr_text expr.now))) }
+    ensures { Prints O.contents O.faults O.may_fail O.takes_memory O.keeps before result out.old out.new (behind_blank (optional (option_map expr_text expr.now))) }
 {
     match expr {
         Some(expr) => put_value(before, out, expr),
@@ -39,7 +39,7 @@ pub(crate) fn put_optional_expr<O: Sink>(before: Ended, out: &mut O, expr: &Opti
 }
 
 fn put_optional_place<O: Sink>(before: Ended, out: &mut O, place: &Option<Designator>) -> Ended
-    ensures { Prints O.contents O.faults O.keeps before result out.old out.new (behind_blank (optional (option_map designator_text place.now))) }
+    ensures { Prints O.contents O.faults O.may_fail O.takes_memory O.keeps before result out.old out.new (behind_blank (optional (option_map designator_text place.now))) }
 {
     match place {
         Some(place) => put_place(before, out, place),
@@ -48,7 +48,7 @@ fn put_optional_place<O: Sink>(before: Ended, out: &mut O, place: &Option<Design
 }
 
 fn put_field<O: Sink>(before: Ended, out: &mut O, field: Field<'_>) -> Ended
-    ensures { Prints O.contents O.faults O.keeps before result out.old out.new (behind_blank (field_text field.entry)) }
+    ensures { Prints O.contents O.faults O.may_fail O.takes_memory O.keeps before result out.old out.new (behind_blank (field_text field.entry)) }
 {
     match field {
         Field::Number(number) => put_number(before, out, number),
@@ -71,7 +71,7 @@ pub(crate) fn put_front<O: Sink>(
     tag: &[u8],
     fields: &[Field<'_>],
 ) -> Ended
-    ensures { Prints O.contents O.faults O.keeps before result out.old out.new (front tag.now (field_texts fields.now)) }
+    ensures { Prints O.contents O.faults O.may_fail O.takes_memory O.keeps before result out.old out.new (front tag.now (field_texts fields.now)) }
 {
     let mut ended = put_tag(before, out, tag);
     for field in fields {
@@ -87,7 +87,7 @@ pub(crate) fn put_node<O: Sink>(
     tag: &[u8],
     fields: &[Field<'_>],
 ) -> Ended
-    ensures { Prints O.contents O.faults O.keeps before result out.old out.new (node tag.now (field_texts fields.now)) }
+    ensures { Prints O.contents O.faults O.may_fail O.takes_memory O.keeps before result out.old out.new (node tag.now (field_texts fields.now)) }
 {
     let ended = put_front(before, out, tag, fields);
     put(ended, out, b")")

@@ -16,7 +16,7 @@ pub(crate) type Ended = Result<(), PutFault>;
 // What a sink says of the piece, behind the puts before.
 fn put_behind<O: Sink>(before: Ended, out: &mut O, piece: &[u8]) -> Ended
     ensures text { Puts before result (O.contents out.old) (O.contents out.new) piece.now }
-    ensures cause { Causes before result (O.faults out.old) (O.faults out.new) }
+    ensures cause { Causes O.may_fail O.takes_memory before result (O.faults out.old) (O.faults out.new) }
     ensures keeps { O.keeps out.old out.new }
 {
     match before {
@@ -26,7 +26,7 @@ fn put_behind<O: Sink>(before: Ended, out: &mut O, piece: &[u8]) -> Ended
 }
 
 pub(crate) fn put<O: Sink>(before: Ended, out: &mut O, piece: &[u8]) -> Ended
-    ensures { Prints O.contents O.faults O.keeps before result out.old out.new piece.now }
+    ensures { Prints O.contents O.faults O.may_fail O.takes_memory O.keeps before result out.old out.new piece.now }
 {
     put_behind(before, out, piece)
 }
@@ -40,7 +40,7 @@ pub(crate) fn put_between<O: Sink>(
     middle: &[u8],
     back: &[u8],
 ) -> Ended
-    ensures { Prints O.contents O.faults O.keeps before result out.old out.new (joined (front.now ∷ middle.now ∷ back.now ∷ [])) }
+    ensures { Prints O.contents O.faults O.may_fail O.takes_memory O.keeps before result out.old out.new (joined (front.now ∷ middle.now ∷ back.now ∷ [])) }
 {
     let ended = put(before, out, front);
     let ended = put(ended, out, middle);
@@ -50,7 +50,7 @@ pub(crate) fn put_between<O: Sink>(
 // The tag of a node and the name behind it.
 #[tactic(auto, using(crate::proofs::Chains::chains))]
 pub(crate) fn put_named<O: Sink>(before: Ended, out: &mut O, tag: &[u8], name: &Name) -> Ended
-    ensures { Prints O.contents O.faults O.keeps before result out.old out.new (joined (opened tag.now ∷ behind_blank name.now ∷ [])) }
+    ensures { Prints O.contents O.faults O.may_fail O.takes_memory O.keeps before result out.old out.new (joined (opened tag.now ∷ behind_blank name.now ∷ [])) }
 {
     let ended = put_tag(before, out, tag);
     put_name(ended, out, name)
@@ -59,7 +59,7 @@ pub(crate) fn put_named<O: Sink>(before: Ended, out: &mut O, tag: &[u8], name: &
 // The parenthesis and the tag that a node begins with.
 #[tactic(auto, using(crate::proofs::Chains::chains))]
 pub(crate) fn put_tag<O: Sink>(before: Ended, out: &mut O, tag: &[u8]) -> Ended
-    ensures { Prints O.contents O.faults O.keeps before result out.old out.new (opened tag.now) }
+    ensures { Prints O.contents O.faults O.may_fail O.takes_memory O.keeps before result out.old out.new (opened tag.now) }
 {
     let ended = put(before, out, b"(");
     put(ended, out, tag)
@@ -67,7 +67,7 @@ pub(crate) fn put_tag<O: Sink>(before: Ended, out: &mut O, tag: &[u8]) -> Ended
 
 // The same, from the text of both.
 pub(crate) fn put_opened<O: Sink>(before: Ended, out: &mut O, opened: &[u8]) -> Ended
-    ensures { Prints O.contents O.faults O.keeps before result out.old out.new (joined (take 1 opened.now ∷ drop 1 opened.now ∷ [])) }
+    ensures { Prints O.contents O.faults O.may_fail O.takes_memory O.keeps before result out.old out.new (joined (take 1 opened.now ∷ drop 1 opened.now ∷ [])) }
 {
     put(before, out, opened)
 }
@@ -75,7 +75,7 @@ pub(crate) fn put_opened<O: Sink>(before: Ended, out: &mut O, opened: &[u8]) -> 
 // A part of a node stands behind a blank.
 #[tactic(auto, using(crate::proofs::Chains::chains))]
 pub(crate) fn put_word<O: Sink>(before: Ended, out: &mut O, word: &[u8]) -> Ended
-    ensures { Prints O.contents O.faults O.keeps before result out.old out.new (behind_blank word.now) }
+    ensures { Prints O.contents O.faults O.may_fail O.takes_memory O.keeps before result out.old out.new (behind_blank word.now) }
 {
     let ended = put(before, out, b" ");
     put(ended, out, word)
@@ -84,14 +84,14 @@ pub(crate) fn put_word<O: Sink>(before: Ended, out: &mut O, word: &[u8]) -> Ende
 // What stands for a missing part.
 #[tactic(auto, unfolding(lf_base::specs::Contents::joined))]
 pub(crate) fn put_missing<O: Sink>(before: Ended, out: &mut O) -> Ended
-    ensures { Prints O.contents O.faults O.keeps before result out.old out.new (behind_blank (codes "-")) }
+    ensures { Prints O.contents O.faults O.may_fail O.takes_memory O.keeps before result out.old out.new (behind_blank (codes "-")) }
 {
     put(before, out, b" -")
 }
 
 // A number, with no blank in front of it. Most numbers have one digit.
 pub(crate) fn put_digits<O: Sink>(before: Ended, out: &mut O, number: u32) -> Ended
-    ensures { Prints O.contents O.faults O.keeps before result out.old out.new (decimal number) }
+    ensures { Prints O.contents O.faults O.may_fail O.takes_memory O.keeps before result out.old out.new (decimal number) }
 {
     if number < 10 {
         return put(before, out, &[b'0' + number as u8]);
@@ -101,7 +101,7 @@ pub(crate) fn put_digits<O: Sink>(before: Ended, out: &mut O, number: u32) -> En
 }
 
 pub(crate) fn put_number<O: Sink>(before: Ended, out: &mut O, number: u32) -> Ended
-    ensures { Prints O.contents O.faults O.keeps before result out.old out.new (behind_blank (decimal number)) }
+    ensures { Prints O.contents O.faults O.may_fail O.takes_memory O.keeps before result out.old out.new (behind_blank (decimal number)) }
 {
     if number < 10 {
         return put(before, out, &[b' ', b'0' + number as u8]);
@@ -132,7 +132,7 @@ fn are_plain(bytes: &[u8]) -> bool
 }
 
 fn put_byte<O: Sink>(before: Ended, out: &mut O, byte: u8) -> Ended
-    ensures { Prints O.contents O.faults O.keeps before result out.old out.new (byte_text byte) }
+    ensures { Prints O.contents O.faults O.may_fail O.takes_memory O.keeps before result out.old out.new (byte_text byte) }
 {
     if is_plain(byte) {
         return put(before, out, &[byte]);
@@ -148,7 +148,7 @@ fn put_byte<O: Sink>(before: Ended, out: &mut O, byte: u8) -> Ended
 
 #[tactic(auto, using(crate::proofs::Chains::loops))]
 fn put_each_byte<O: Sink>(before: Ended, out: &mut O, bytes: &[u8]) -> Ended
-    ensures { Prints O.contents O.faults O.keeps before result out.old out.new (joined (byte_texts bytes.now)) }
+    ensures { Prints O.contents O.faults O.may_fail O.takes_memory O.keeps before result out.old out.new (joined (byte_texts bytes.now)) }
 {
     let mut ended = before;
     for byte in bytes {
@@ -159,7 +159,7 @@ fn put_each_byte<O: Sink>(before: Ended, out: &mut O, bytes: &[u8]) -> Ended
 
 // Bytes that all stand for themselves are one piece.
 fn put_bytes<O: Sink>(before: Ended, out: &mut O, bytes: &[u8]) -> Ended
-    ensures { Prints O.contents O.faults O.keeps before result out.old out.new (joined (byte_texts bytes.now)) }
+    ensures { Prints O.contents O.faults O.may_fail O.takes_memory O.keeps before result out.old out.new (joined (byte_texts bytes.now)) }
 {
     if are_plain(bytes) {
         put(before, out, bytes)
@@ -170,7 +170,7 @@ fn put_bytes<O: Sink>(before: Ended, out: &mut O, bytes: &[u8]) -> Ended
 
 #[tactic(auto, using(crate::proofs::Chains::chains))]
 pub(crate) fn put_quoted<O: Sink>(before: Ended, out: &mut O, bytes: &[u8]) -> Ended
-    ensures { Prints O.contents O.faults O.keeps before result out.old out.new (behind_blank (quoted bytes.now)) }
+    ensures { Prints O.contents O.faults O.may_fail O.takes_memory O.keeps before result out.old out.new (behind_blank (quoted bytes.now)) }
 {
     let ended = put(before, out, b" \"");
     let ended = put_bytes(ended, out, bytes);
@@ -180,7 +180,7 @@ pub(crate) fn put_quoted<O: Sink>(before: Ended, out: &mut O, bytes: &[u8]) -> E
 // The end of an integer literal. The suffix is 0 nearly always.
 #[tactic(auto, using(crate::proofs::Chains::chains))]
 fn put_suffix<O: Sink>(before: Ended, out: &mut O, suffix: u8) -> Ended
-    ensures { Prints O.contents O.faults O.keeps before result out.old out.new (joined (codes "\"" ∷ behind_blank (decimal suffix) ∷ codes ")" ∷ [])) }
+    ensures { Prints O.contents O.faults O.may_fail O.takes_memory O.keeps before result out.old out.new (joined (codes "\"" ∷ behind_blank (decimal suffix) ∷ codes ")" ∷ [])) }
 {
     if suffix == 0 {
         return put(before, out, b"\" 0)");
@@ -192,7 +192,7 @@ fn put_suffix<O: Sink>(before: Ended, out: &mut O, suffix: u8) -> Ended
 
 // An integer literal, behind a blank.
 pub(crate) fn put_literal<O: Sink>(before: Ended, out: &mut O, digits: &[u8], suffix: u8) -> Ended
-    ensures { Prints O.contents O.faults O.keeps before result out.old out.new (behind_blank (node (codes "Int") (quoted digits.now ∷ decimal suffix ∷ []))) }
+    ensures { Prints O.contents O.faults O.may_fail O.takes_memory O.keeps before result out.old out.new (behind_blank (node (codes "Int") (quoted digits.now ∷ decimal suffix ∷ []))) }
 {
     let ended = put(before, out, b" (Int \"");
     let ended = put_bytes(ended, out, digits);
@@ -200,13 +200,13 @@ pub(crate) fn put_literal<O: Sink>(before: Ended, out: &mut O, digits: &[u8], su
 }
 
 pub(crate) fn put_name<O: Sink>(before: Ended, out: &mut O, name: &Name) -> Ended
-    ensures { Prints O.contents O.faults O.keeps before result out.old out.new (behind_blank name.now) }
+    ensures { Prints O.contents O.faults O.may_fail O.takes_memory O.keeps before result out.old out.new (behind_blank name.now) }
 {
     put_word(before, out, name.bytes())
 }
 
 pub(crate) fn put_optional_name<O: Sink>(before: Ended, out: &mut O, name: &Option<Name>) -> Ended
-    ensures { Prints O.contents O.faults O.keeps before result out.old out.new (behind_blank (optional name.now)) }
+    ensures { Prints O.contents O.faults O.may_fail O.takes_memory O.keeps before result out.old out.new (behind_blank (optional name.now)) }
 {
     match name {
         Some(name) => put_name(before, out, name),
@@ -217,7 +217,7 @@ pub(crate) fn put_optional_name<O: Sink>(before: Ended, out: &mut O, name: &Opti
 // A text of a list, behind what stands in front of it.
 #[tactic(auto, using(crate::proofs::Chains::chains))]
 fn put_led<O: Sink>(before: Ended, out: &mut O, lead: &[u8], word: &[u8]) -> Ended
-    ensures { Prints O.contents O.faults O.keeps before result out.old out.new (joined (lead.now ∷ word.now ∷ [])) }
+    ensures { Prints O.contents O.faults O.may_fail O.takes_memory O.keeps before result out.old out.new (joined (lead.now ∷ word.now ∷ [])) }
 {
     let ended = put(before, out, lead);
     put(ended, out, word)
@@ -225,7 +225,7 @@ fn put_led<O: Sink>(before: Ended, out: &mut O, lead: &[u8], word: &[u8]) -> End
 
 #[tactic(auto, using(crate::proofs::Chains::lists))]
 pub(crate) fn put_names<O: Sink>(before: Ended, out: &mut O, names: &[Name]) -> Ended
-    ensures { Prints O.contents O.faults O.keeps before result out.old out.new (behind_blank (listed names.now)) }
+    ensures { Prints O.contents O.faults O.may_fail O.takes_memory O.keeps before result out.old out.new (behind_blank (listed names.now)) }
 {
     let mut ended = put(before, out, b" [");
     let mut lead: &[u8] = b"";

@@ -13,7 +13,7 @@ use crate::statement::{Arm, Case, CaseRange, Statement};
 use lf_base::Sink;
 
 fn put_range<O: Sink>(before: Ended, out: &mut O, range: &CaseRange) -> Ended
-    ensures { Prints O.contents O.faults O.keeps before result out.old out.new (range_text range.now) }
+    ensures { Prints O.contents O.faults O.may_fail O.takes_memory O.keeps before result out.old out.new (range_text range.now) }
 {
     match range {
         CaseRange::One { value } => put_node(before, out, b"One", &[Field::Value(value)]),
@@ -28,7 +28,7 @@ fn put_range<O: Sink>(before: Ended, out: &mut O, range: &CaseRange) -> Ended
 
 #[tactic(auto, using(crate::proofs::Chains::chains))]
 fn put_led_range<O: Sink>(before: Ended, out: &mut O, lead: &[u8], range: &CaseRange) -> Ended
-    ensures { Prints O.contents O.faults O.keeps before result out.old out.new (joined (lead.now ∷ range_text range.now ∷ [])) }
+    ensures { Prints O.contents O.faults O.may_fail O.takes_memory O.keeps before result out.old out.new (joined (lead.now ∷ range_text range.now ∷ [])) }
 {
     let ended = put(before, out, lead);
     put_range(ended, out, range)
@@ -36,7 +36,7 @@ fn put_led_range<O: Sink>(before: Ended, out: &mut O, lead: &[u8], range: &CaseR
 
 #[tactic(auto, using(crate::proofs::Chains::lists))]
 fn put_ranges<O: Sink>(before: Ended, out: &mut O, ranges: &[CaseRange]) -> Ended
-    ensures { Prints O.contents O.faults O.keeps before result out.old out.new (behind_blank (listed (range_texts ranges.now))) }
+    ensures { Prints O.contents O.faults O.may_fail O.takes_memory O.keeps before result out.old out.new (behind_blank (listed (range_texts ranges.now))) }
 {
     let mut ended = put(before, out, b" [");
     let mut lead: &[u8] = b"";
@@ -50,7 +50,7 @@ fn put_ranges<O: Sink>(before: Ended, out: &mut O, ranges: &[CaseRange]) -> Ende
 #[cycle(stmt)]
 #[tactic(auto, using(crate::proofs::StmtTexts::texts))]
 fn put_stmt<O: Sink>(before: Ended, out: &mut O, stmt: &Statement) -> Ended
-    ensures { Prints O.contents O.faults O.keeps before result out.old out.new (stmt_text stmt.now) }
+    ensures { Prints O.contents O.faults O.may_fail O.takes_memory O.keeps before result out.old out.new (stmt_text stmt.now) }
 {
     match stmt {
         Statement::Assign {
@@ -219,7 +219,7 @@ fn put_stmt<O: Sink>(before: Ended, out: &mut O, stmt: &Statement) -> Ended
 #[cycle(stmt)]
 #[tactic(auto, using(crate::proofs::Chains::chains))]
 fn put_led_stmt<O: Sink>(before: Ended, out: &mut O, lead: &[u8], stmt: &Statement) -> Ended
-    ensures { Prints O.contents O.faults O.keeps before result out.old out.new (joined (lead.now ∷ stmt_text stmt.now ∷ [])) }
+    ensures { Prints O.contents O.faults O.may_fail O.takes_memory O.keeps before result out.old out.new (joined (lead.now ∷ stmt_text stmt.now ∷ [])) }
 {
     let ended = put(before, out, lead);
     put_stmt(ended, out, stmt)
@@ -228,7 +228,7 @@ fn put_led_stmt<O: Sink>(before: Ended, out: &mut O, lead: &[u8], stmt: &Stateme
 #[cycle(stmt)]
 #[tactic(auto, using(crate::proofs::Chains::lists))]
 pub(crate) fn put_stmts<O: Sink>(before: Ended, out: &mut O, stmts: &[Statement]) -> Ended
-    ensures { Prints O.contents O.faults O.keeps before result out.old out.new (behind_blank (listed (stmt_texts stmts.now))) }
+    ensures { Prints O.contents O.faults O.may_fail O.takes_memory O.keeps before result out.old out.new (behind_blank (listed (stmt_texts stmts.now))) }
 {
     let mut ended = put(before, out, b" [");
     let mut lead: &[u8] = b"";
@@ -242,7 +242,7 @@ pub(crate) fn put_stmts<O: Sink>(before: Ended, out: &mut O, stmts: &[Statement]
 #[cycle(stmt)]
 #[tactic(auto, using(crate::proofs::StmtTexts::texts))]
 fn put_arm<O: Sink>(before: Ended, out: &mut O, arm: &Arm) -> Ended
-    ensures { Prints O.contents O.faults O.keeps before result out.old out.new (arm_text arm.now) }
+    ensures { Prints O.contents O.faults O.may_fail O.takes_memory O.keeps before result out.old out.new (arm_text arm.now) }
 {
     let ended = put_tag(before, out, b"Arm");
     let ended = put_number(ended, out, arm.line);
@@ -254,7 +254,7 @@ fn put_arm<O: Sink>(before: Ended, out: &mut O, arm: &Arm) -> Ended
 #[cycle(stmt)]
 #[tactic(auto, using(crate::proofs::Chains::chains))]
 fn put_led_arm<O: Sink>(before: Ended, out: &mut O, lead: &[u8], arm: &Arm) -> Ended
-    ensures { Prints O.contents O.faults O.keeps before result out.old out.new (joined (lead.now ∷ arm_text arm.now ∷ [])) }
+    ensures { Prints O.contents O.faults O.may_fail O.takes_memory O.keeps before result out.old out.new (joined (lead.now ∷ arm_text arm.now ∷ [])) }
 {
     let ended = put(before, out, lead);
     put_arm(ended, out, arm)
@@ -263,7 +263,7 @@ fn put_led_arm<O: Sink>(before: Ended, out: &mut O, lead: &[u8], arm: &Arm) -> E
 #[cycle(stmt)]
 #[tactic(auto, using(crate::proofs::Chains::lists))]
 fn put_arms<O: Sink>(before: Ended, out: &mut O, arms: &[Arm]) -> Ended
-    ensures { Prints O.contents O.faults O.keeps before result out.old out.new (behind_blank (listed (arm_texts arms.now))) }
+    ensures { Prints O.contents O.faults O.may_fail O.takes_memory O.keeps before result out.old out.new (behind_blank (listed (arm_texts arms.now))) }
 {
     let mut ended = put(before, out, b" [");
     let mut lead: &[u8] = b"";
@@ -277,7 +277,7 @@ fn put_arms<O: Sink>(before: Ended, out: &mut O, arms: &[Arm]) -> Ended
 #[cycle(stmt)]
 #[tactic(auto, using(crate::proofs::StmtTexts::texts))]
 fn put_case<O: Sink>(before: Ended, out: &mut O, case: &Case) -> Ended
-    ensures { Prints O.contents O.faults O.keeps before result out.old out.new (case_text case.now) }
+    ensures { Prints O.contents O.faults O.may_fail O.takes_memory O.keeps before result out.old out.new (case_text case.now) }
 {
     let ended = put_front(
         before,
@@ -296,7 +296,7 @@ fn put_case<O: Sink>(before: Ended, out: &mut O, case: &Case) -> Ended
 #[cycle(stmt)]
 #[tactic(auto, using(crate::proofs::Chains::chains))]
 fn put_led_case<O: Sink>(before: Ended, out: &mut O, lead: &[u8], case: &Case) -> Ended
-    ensures { Prints O.contents O.faults O.keeps before result out.old out.new (joined (lead.now ∷ case_text case.now ∷ [])) }
+    ensures { Prints O.contents O.faults O.may_fail O.takes_memory O.keeps before result out.old out.new (joined (lead.now ∷ case_text case.now ∷ [])) }
 {
     let ended = put(before, out, lead);
     put_case(ended, out, case)
@@ -305,7 +305,7 @@ fn put_led_case<O: Sink>(before: Ended, out: &mut O, lead: &[u8], case: &Case) -
 #[cycle(stmt)]
 #[tactic(auto, using(crate::proofs::Chains::lists))]
 fn put_cases<O: Sink>(before: Ended, out: &mut O, cases: &[Case]) -> Ended
-    ensures { Prints O.contents O.faults O.keeps before result out.old out.new (behind_blank (listed (case_texts cases.now))) }
+    ensures { Prints O.contents O.faults O.may_fail O.takes_memory O.keeps before result out.old out.new (behind_blank (listed (case_texts cases.now))) }
 {
     let mut ended = put(before, out, b" [");
     let mut lead: &[u8] = b"";

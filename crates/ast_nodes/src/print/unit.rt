@@ -16,7 +16,7 @@ use lf_base::Sink;
 
 #[tactic(auto, using(crate::proofs::Chains::chains))]
 fn put_procedure<O: Sink>(before: Ended, out: &mut O, procedure: &Procedure) -> Ended
-    ensures { Prints O.contents O.faults O.keeps before result out.old out.new (procedure_text procedure.now) }
+    ensures { Prints O.contents O.faults O.may_fail O.takes_memory O.keeps before result out.old out.new (procedure_text procedure.now) }
 {
     let ended = put_tag(before, out, b"Proc");
     let ended = put_number(ended, out, procedure.line);
@@ -37,7 +37,7 @@ fn put_led_procedure<O: Sink>(
     lead: &[u8],
     procedure: &Procedure,
 ) -> Ended
-    ensures { Prints O.contents O.faults O.keeps before result out.old out.new (joined (lead.now ∷ procedure_text procedure.now ∷ [])) }
+    ensures { Prints O.contents O.faults O.may_fail O.takes_memory O.keeps before result out.old out.new (joined (lead.now ∷ procedure_text procedure.now ∷ [])) }
 {
     let ended = put(before, out, lead);
     put_procedure(ended, out, procedure)
@@ -45,7 +45,7 @@ fn put_led_procedure<O: Sink>(
 
 #[tactic(auto, using(crate::proofs::Chains::lists))]
 fn put_procedures<O: Sink>(before: Ended, out: &mut O, procedures: &[Procedure]) -> Ended
-    ensures { Prints O.contents O.faults O.keeps before result out.old out.new (behind_blank (listed (procedure_texts procedures.now))) }
+    ensures { Prints O.contents O.faults O.may_fail O.takes_memory O.keeps before result out.old out.new (behind_blank (listed (procedure_texts procedures.now))) }
 {
     let mut ended = put(before, out, b" [");
     let mut lead: &[u8] = b"";
@@ -58,7 +58,7 @@ fn put_procedures<O: Sink>(before: Ended, out: &mut O, procedures: &[Procedure])
 
 #[tactic(auto, using(crate::proofs::Chains::chains))]
 fn put_unit<O: Sink>(before: Ended, out: &mut O, unit: &Unit) -> Ended
-    ensures { Prints O.contents O.faults O.keeps before result out.old out.new (unit_text unit.now) }
+    ensures { Prints O.contents O.faults O.may_fail O.takes_memory O.keeps before result out.old out.new (unit_text unit.now) }
 {
     match unit {
         Unit::Program {
@@ -94,7 +94,7 @@ fn put_unit<O: Sink>(before: Ended, out: &mut O, unit: &Unit) -> Ended
 
 #[tactic(auto, using(crate::proofs::Chains::chains))]
 fn put_line<O: Sink>(before: Ended, out: &mut O, unit: &Unit) -> Ended
-    ensures { Prints O.contents O.faults O.keeps before result out.old out.new (line_text unit.now) }
+    ensures { Prints O.contents O.faults O.may_fail O.takes_memory O.keeps before result out.old out.new (line_text unit.now) }
 {
     let ended = put_unit(before, out, unit);
     put(ended, out, b"\n")
@@ -102,7 +102,7 @@ fn put_line<O: Sink>(before: Ended, out: &mut O, unit: &Unit) -> Ended
 
 #[tactic(auto, using(crate::proofs::Chains::loops))]
 pub(crate) fn put_lines<O: Sink>(before: Ended, out: &mut O, units: &[Unit]) -> Ended
-    ensures { Prints O.contents O.faults O.keeps before result out.old out.new (joined (line_texts units.now)) }
+    ensures { Prints O.contents O.faults O.may_fail O.takes_memory O.keeps before result out.old out.new (joined (line_texts units.now)) }
 {
     let mut ended = before;
     for unit in units {

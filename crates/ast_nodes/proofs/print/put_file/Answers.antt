@@ -3,10 +3,10 @@ use Rattle.ast_nodes.proofs.Chains.{gained, counted, kept}
 use Rattle.ast_nodes.proofs.print.put_file.Goals as goal
 
 pub returns-clause-text : goal.returns-clause-text
-returns-clause-text g c = rw (sym c.as_slice.ensures) (gained _ _ _ _ _ _ _ _ c.put_lines.ensures)
+returns-clause-text g c = rw (sym c.as_slice.ensures) (gained _ _ _ _ _ _ _ _ _ _ c.put_lines.ensures)
 
 pub returns-clause-cause : goal.returns-clause-cause
-returns-clause-cause g c = counted _ _ _ _ _ _ _ _ c.put_lines.ensures
+returns-clause-cause g c = counted _ _ _ _ _ _ _ _ _ _ c.put_lines.ensures
 
 pub returns-clause-keeps : goal.returns-clause-keeps
-returns-clause-keeps g c = kept _ _ _ _ _ _ _ _ c.put_lines.ensures _ (g.met.O.Sink.keeps_same _)
+returns-clause-keeps g c = kept _ _ _ _ _ _ _ _ _ _ c.put_lines.ensures _ (g.met.O.Sink.keeps_same _)

@@ -7,6 +7,6 @@ use Rattle.c_nodes.proofs.expressions.put_more_arguments.Given as goal
 abbrev pub invariant-loop-argument : goal.invariant-loop-argument
 invariant-loop-argument g l = record {
   text : AwaitsPuts l.fn.before l.ended (g.O.Sink.contents l.fn.out) (g.O.Sink.contents l.out) (behind_commas (expr_texts l.arguments)) (behind_commas (expr_texts (drop l.argument-index l.arguments)));
-  cause : Causes l.fn.before l.ended (g.O.Sink.faults l.fn.out) (g.O.Sink.faults l.out);
+  cause : Causes g.O.Sink.may_fail g.O.Sink.takes_memory l.fn.before l.ended (g.O.Sink.faults l.fn.out) (g.O.Sink.faults l.out);
   keeps : g.O.Sink.keeps l.fn.out l.out;
 }

@@ -7,6 +7,6 @@ use Rattle.c_nodes.proofs.print.put_lines.Given as goal
 abbrev pub invariant-loop-member : goal.invariant-loop-member
 invariant-loop-member g l = record {
   text : AwaitsPuts l.fn.before l.ended (g.O.Sink.contents l.fn.out) (g.O.Sink.contents l.out) (object_texts l.members) (object_texts (drop l.member-index l.members));
-  cause : Causes l.fn.before l.ended (g.O.Sink.faults l.fn.out) (g.O.Sink.faults l.out);
+  cause : Causes g.O.Sink.may_fail g.O.Sink.takes_memory l.fn.before l.ended (g.O.Sink.faults l.fn.out) (g.O.Sink.faults l.out);
   keeps : g.O.Sink.keeps l.fn.out l.out;
 }

@@ -1,5 +1,5 @@
 -- Where no count rose, the status is the verdict's, and a count that rose decides the status.
-use Rattle.std.proofs.Common.{◌≡◌, ℕ, zero, suc, ◌-◌, ◌^◌, ◌<◌, ◌≤◌, List, [], ◌∷◌, Option, Some, None, Result, Ok, Err, ◌⊎◌, inl, inr, refl, sym, ap, subst, ◌∙◌, arith}
+use Rattle.std.proofs.Common.{◌≡◌, ℕ, Bool, zero, suc, ◌-◌, ◌^◌, ◌<◌, ◌≤◌, List, [], ◌∷◌, Option, Some, None, Result, Ok, Err, ◌⊎◌, inl, inr, refl, sym, ap, subst, ◌∙◌, arith}
 use Rattle.lf_base.specs.declared.fault.PutFault.{PutFault}
 use Rattle.lf_base.specs.declared.fault.PutFault.TheVariants as put
 use Rattle.lf_base.specs.Causes.{Rose, HasCause}
@@ -33,15 +33,15 @@ behind : (front : List (List ℕ)) (s t : Stored) → IsBehind front s t → Sam
 behind [] s t h = same_all s t h
 behind (file ∷ front) s t h = (h.reads, h.writes)
 
-untouched : (names : List (List ℕ)) (s t : Stored) → Halts IsUntouched names s t → Same s t
-untouched names s t h =
+untouched : (name : List ℕ) (names : List (List ℕ)) (s t : Stored) → Halts (IsUntouched name) names s t → Same s t
+untouched name names s t h =
     let b = behind h.front s h.between h.behind in
-    let e = same_all h.between t h.ends in
+    let e = same_all h.between t h.ends.1 in
     (e.0 ∙ b.0, e.1 ∙ b.1)
 
-stops : (c : Call) (verb : Verb) (names : List (List ℕ)) → StopsAt c verb names → Same c.store c.store'
-stops c Compile names h = untouched names c.store c.store' h
-stops c Ast names h = same_all c.store c.store' h
+stops : (c : Call) (name : List ℕ) (verb : Verb) (names : List (List ℕ)) → StopsAt c name verb names → Same c.store c.store'
+stops c name Compile names h = untouched name names c.store c.store' h
+stops c name Ast names h = same_all c.store c.store' h.1
 
 -- no count of the store or of the sink of the trees rose
 abbrev Still : Call → Type 0
@@ -49,8 +49,8 @@ Still c = Same c.store c.store' × (c.out'.faults ≡ c.out.faults)
 
 comes_still : (c : Call) (refused : Refusal) → ComesTo c refused → Still c
 comes_still c refusal.Usage h = (same_all c.store c.store' h.1, ap (λ x. x.faults) h.2)
-comes_still c (refusal.Absent name) h = (by_command (words_of c.words) (StopsAt c) (Same c.store c.store') h.0 (stops c), ap (λ x. x.faults) h.1)
-comes_still c (refusal.Refused name line rule) h = (by_command (words_of c.words) (StopsAt c) (Same c.store c.store') h.0 (stops c), ap (λ x. x.faults) h.1)
+comes_still c (refusal.Absent name) h = (by_command (words_of c.words) (StopsAt c name) (Same c.store c.store') h.0 (stops c name), ap (λ x. x.faults) h.1)
+comes_still c (refusal.Refused name line rule) h = (by_command (words_of c.words) (StopsAt c name) (Same c.store c.store') h.0 (stops c name), ap (λ x. x.faults) h.1)
 
 succeeds_still : (c : Call) (verb : Verb) (names : List (List ℕ)) → Succeeds c verb names → Still c
 succeeds_still c Compile names h = ((h.0.reads, h.0.writes), ap (λ x. x.faults) h.1)
@@ -80,19 +80,19 @@ writing : (c : Call) (verb : Verb) (names : List (List ℕ)) → FailsToWrite c 
 writing c Compile names h =
     let b = behind h.0.front c.store h.0.between h.0.behind in
     (h.0.ends.reads ∙ b.0, inl (subst (λ n. Rose n c.store'.writes) b.1 h.0.ends.writes))
-writing c Ast names h = (ap (λ x. x.reads) h.0, inr h.1)
+writing c Ast names h = (ap (λ x. x.reads) h.0, inr h.2)
 
 -- a count that rose has risen after another call
 rose_twice : (l m n : ℕ) → Rose l m → Rose m n → Rose l n
 rose_twice l m n h k = grind (arith)
 
-still_rose : (ended : Result (Unit {0}) PutFault) (l m n : ℕ) → Rose l m → HasCause {T = Unit {0}} m n ended → Rose l n
-still_rose (Ok u) l m n h k = subst (Rose l) (sym k) h
-still_rose (Err put.Memory) l m n h k = subst (Rose l) (sym k) h
-still_rose (Err put.Failed) l m n h k = rose_twice l m n h k
+still_rose : (f w : Bool) (ended : Result (Unit {0}) PutFault) (l m n : ℕ) → Rose l m → HasCause {T = Unit {0}} f w m n ended → Rose l n
+still_rose f w (Ok u) l m n h k = subst (Rose l) (sym k) h
+still_rose f w (Err put.Memory) l m n h k = subst (Rose l) (sym k.1) h
+still_rose f w (Err put.Failed) l m n h k = rose_twice l m n h k.1
 
 untold_rose : (a b c : Held) (s t : List ℕ) → IsTried (Err put.Failed) a b s → Tries b c t → Rose a.faults c.faults
-untold_rose a b c s t h k = still_rose k.0 a.faults b.faults c.faults h.counts.cause k.1.counts.cause
+untold_rose a b c s t h k = still_rose b.may_fail b.takes_memory k.0 a.faults b.faults c.faults h.counts.cause.1 k.1.counts.cause
 
 not_risen : (before now : ℕ) → before < 2 ^ 64 - 1 → now ≡ before → Rose before now → ⊥
 not_risen before now some same rose = omega (arith, some, same, rose)
@@ -155,4 +155,4 @@ counted (suc (suc (suc (suc (suc (suc status)))))) c h = absurd h
 pub stands : (old new : Held) (text : List ℕ) → Tries old new text → new.faults ≡ old.faults → old.faults < 2 ^ 64 - 1 → Tells old new text ⊎ IsTried (Err put.Memory) old new text
 stands old new text (Ok u, k) same some = inl k
 stands old new text (Err put.Memory, k) same some = inr k
-stands old new text (Err put.Failed, k) same some = absurd (not_risen old.faults new.faults some same k.counts.cause)
+stands old new text (Err put.Failed, k) same some = absurd (not_risen old.faults new.faults some same k.counts.cause.1)

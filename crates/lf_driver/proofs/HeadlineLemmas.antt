@@ -30,6 +30,7 @@ use Rattle.lf_driver.specs.Verdict.{c_name}
 use Rattle.lf_driver.specs.Words.{CommandText, words_of}
 use Rattle.lf_driver.proofs.Exact.{told_at, exact, counted}
 use Rattle.lf_driver.proofs.Statuses.{answered}
+use Rattle.lf_driver.proofs.Whole.{said}
 use Rattle.lf_driver.proofs.SourceNames.{AreBytes, IsName, named}
 use Rattle.lf_driver.proofs.OnePrint.Agrees.{agrees}
 use Rattle.lf_driver.proofs.OnePrint.Grammatical.{grammatical}
@@ -130,4 +131,4 @@ keeps_meaning status came told c b e k r z files t names w = means_all came c fi
 pub promises : (status : ℕ) (came told : Answer) (c : Call) → AllByRecursion AreBytes c.words → status ≡ status_of told → Performs came c.words c.store c.store' c.out c.out' → Reports came told c.err c.err' → Promises status c
 promises status came told c b e k r =
     let a = answered status came told c e k r in
-    record { answered = a; exact = exact status c a; counted = counted status c a; meaning = keeps_meaning status came told c b e k r }
+    record { answered = a; said = said status c a; exact = exact status c a; counted = counted status c a; meaning = keeps_meaning status came told c b e k r }

@@ -9,4 +9,5 @@ mod SourceNames
 pub mod Statuses
 pub mod Straight
 pub mod Tellings
+pub mod Whole
 pub mod Written

@@ -51,5 +51,5 @@ pub command_files : (words : List (List ℕ)) (command : CommandText) → words_
 command_files words command h = subst FilesOf h (files_of words)
 
 -- what comes of a file that has this name
-pub performs_named : (came : Answer) (verb : Verb) (words : List (List ℕ)) (file name : List ℕ) {f f' : Option Files} {p p' b b' h h' : Option (List ℕ)} {r r' w w' q q' : ℕ} → words_of words ≡ Some (verb, 0, file ∷ []) → name ≡ file → VerbComesTo came verb name f f' h h' → VerbBegins came verb name p p' b b' → VerbCounts came verb r r' w w' q q' → Performs came words (stored f p b r w) (stored f' p' b' r' w') (held h q) (held h' q')
-performs_named came verb words file name {f} {f'} {p} {p'} {b} {b'} {h} {h'} {r} {r'} {w} {w'} {q} {q'} e same comes pending counts = inr (verb, file, e, subst (λ n. Does came verb n (stored f p b r w) (stored f' p' b' r' w') (held h q) (held h' q')) same (record { comes = comes; pending = pending; counts = counts }))
+pub performs_named : (came : Answer) (verb : Verb) (words : List (List ℕ)) (file name : List ℕ) {f f' : Option Files} {p p' b b' h h' : Option (List ℕ)} {r r' w w' q q' : ℕ} {may takes : Bool} → words_of words ≡ Some (verb, 0, file ∷ []) → name ≡ file → VerbComesTo may takes came verb name f f' h h' → VerbBegins came verb name p p' b b' → VerbCounts came verb r r' w w' q q' → Performs came words (stored f p b r w) (stored f' p' b' r' w') (held may takes h q) (held may takes h' q')
+performs_named came verb words file name {f} {f'} {p} {p'} {b} {b'} {h} {h'} {r} {r'} {w} {w'} {q} {q'} {may} {takes} e same comes pending counts = inr (verb, file, e, subst (λ n. Does came verb n (stored f p b r w) (stored f' p' b' r' w') (held may takes h q) (held may takes h' q')) same (record { comes = comes; pending = pending; counts = counts; fails = refl; takes = refl }))

@@ -19,16 +19,16 @@ none_before (x ∷ y ∷ front) file other rest s between e h = cc
 halts_at_one : (Ends : List ℕ → Stored → Stored → Type 0) (file : List ℕ) (s t : Stored) → ((f : List ℕ) (a b : Stored) → Ends f a b → SameFiles a b) → Halts Ends (file ∷ []) s t → SameFiles s t
 halts_at_one Ends file s t same h = same h.file h.between t h.ends ∙ ap (λ x. x.files) (none_before h.front file h.file h.rest s h.between h.is h.behind)
 
-untouched : (f : List ℕ) (a b : Stored) → IsUntouched f a b → SameFiles a b
-untouched f a b e = ap (λ x. x.files) e
+untouched : (name f : List ℕ) (a b : Stored) → IsUntouched name f a b → SameFiles a b
+untouched name f a b e = ap (λ x. x.files) e.1
 
 of_command : (o : Option CommandText) (verb : Verb) (file : List ℕ) (fact : Verb → List (List ℕ) → Type 0) → o ≡ Some (verb, 0, file ∷ []) → OfCommand o fact → fact verb (file ∷ [])
 of_command o verb file fact e h = subst (λ x. OfCommand x fact) e h
 
 module _ (c : Call) (file : List ℕ) where
-  stopped : (verb : Verb) → StopsAt c verb (file ∷ []) → SameFiles c.store c.store'
-  stopped Compile h = halts_at_one IsUntouched file c.store c.store' untouched h
-  stopped Ast h = ap (λ x. x.files) h
+  stopped : (name : List ℕ) (verb : Verb) → StopsAt c name verb (file ∷ []) → SameFiles c.store c.store'
+  stopped name Compile h = halts_at_one (IsUntouched name) file c.store c.store' (untouched name) h
+  stopped name Ast h = ap (λ x. x.files) h.1
 
   unread : (verb : Verb) → FailsToRead c verb (file ∷ []) → SameFiles c.store c.store'
   unread Compile h = halts_at_one IsUnread file c.store c.store' (λ f a b k. k.files) h
@@ -44,8 +44,8 @@ module _ (c : Call) (file : List ℕ) where
 
   refused_at : (verb : Verb) → words_of c.words ≡ Some (verb, 0, file ∷ []) → (refused : Refusal) → ComesTo c refused → SameFiles c.store c.store'
   refused_at verb w refusal.Usage h = ap (λ x. x.files) h.1
-  refused_at verb w (refusal.Absent name) h = stopped verb (of_command (words_of c.words) verb file (StopsAt c) w h.0)
-  refused_at verb w (refusal.Refused name line rule) h = stopped verb (of_command (words_of c.words) verb file (StopsAt c) w h.0)
+  refused_at verb w (refusal.Absent name) h = stopped name verb (of_command (words_of c.words) verb file (StopsAt c name) w h.0)
+  refused_at verb w (refusal.Refused name line rule) h = stopped name verb (of_command (words_of c.words) verb file (StopsAt c name) w h.0)
 
   by_status : (status : ℕ) (verb : Verb) → words_of c.words ≡ Some (verb, 0, file ∷ []) → Answered status c → 0 < status → SameFiles c.store c.store'
   by_status zero verb w h positive = absurd (omega (arith, positive))

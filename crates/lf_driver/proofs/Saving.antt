@@ -1,5 +1,5 @@
 -- A file that was begun, written and finished, and what comes of a file of the store.
-use Rattle.std.proofs.Common.{◌≡◌, ℕ, ◌<◌, true, List, [], ◌++◌, length, Option, Some, None, Result, Ok, Err, inl, inr, refl, sym, ap, subst, ◌∙◌, arith}
+use Rattle.std.proofs.Common.{◌≡◌, ℕ, ◌<◌, Bool, true, List, [], ◌++◌, length, Option, Some, None, Result, Ok, Err, inl, inr, refl, sym, ap, subst, ◌∙◌, arith}
 use Rattle.std.specs.Prelude.{if◌then◌else◌, nat_lt}
 use Rattle.std.proofs.lemmas.Bool.Decides.{nat_tests}
 use denote.Ref.{Bor}
@@ -8,7 +8,9 @@ use Rattle.lf_base.specs.declared.rule.Rule.TheVariants.{E108}
 use Rattle.lf_base.specs.declared.fault.GetFault.TheVariants.{TooLong}
 use Rattle.lf_base.specs.declared.fault.GetFault.TheVariants as read
 use Rattle.lf_base.specs.declared.fault.PutFault.{PutFault}
+use Rattle.lf_base.specs.declared.fault.PutFault.TheVariants as put
 use Rattle.lf_base.specs.declared.fault.SyntaxFault.TheVariants as syntax
+use Rattle.lf_base.specs.Causes.{HasCause}
 use Rattle.lf_base.specs.Contents.{Appends}
 use Rattle.lf_base.specs.Files.{Files, Finishes, ReadGives, greatest_file}
 use Rattle.lf_base.specs.Files as base
@@ -67,20 +69,20 @@ stops file (Err fault') fault h =
 
 -- what a read gives, and what comes of it
 pub too_long : {V : Type 0} (view : V → List ℕ) (old new : Option Files) (file : Bor (List ℕ)) → ReadGives {V = V} view old file.now (Err TooLong) → new ≡ old → FileComesTo (Refused file 1 E108) file.now old new
-too_long view None new file h k = (k, tt)
-too_long view (Some files) new file h k = (k, ap (step nothing file.now) h.1 ∙ ap (step_of_tree nothing file.now) (long_front h.0 h.2))
+too_long view None new file h k = (k, tt, refl)
+too_long view (Some files) new file h k = (k, ap (step nothing file.now) h.1 ∙ ap (step_of_tree nothing file.now) (long_front h.0 h.2), refl)
 
 pub none_there : {V : Type 0} (view : V → List ℕ) (old new : Option Files) (file : Bor (List ℕ)) → ReadGives {V = V} view old file.now (Err read.Absent) → new ≡ old → FileComesTo (Absent file) file.now old new
-none_there view None new file h k = (k, tt)
-none_there view (Some files) new file h k = (k, ap (step nothing file.now) h)
+none_there view None new file h k = (k, tt, refl)
+none_there view (Some files) new file h k = (k, ap (step nothing file.now) h, refl)
 
 pub text_there : {V : Type 0} (view : V → List ℕ) (v : V) (o : Answer) (old now new : Option Files) (file : List ℕ) → ReadGives {V = V} view old file (Ok v) → now ≡ old → TextComesTo o file (view v) now new → FileComesTo o file old new
 text_there view v Done None now new file h k t = tt
 text_there view v Done (Some files) now new file h k t = record { text = view v; bytes = t.0; there = h.0; compiled = t.1; written = t.2.told files k }
 text_there view v Usage old now new file h k t = absurd t
 text_there view v (Absent name) old now new file h k t = absurd t
-text_there view v (Refused name line rule) None now new file h k t = (t.1 ∙ k, tt)
-text_there view v (Refused name line rule) (Some files) now new file h k t = (t.1 ∙ k, ap (step nothing file) h.0 ∙ t.0)
+text_there view v (Refused name line rule) None now new file h k t = (t.1 ∙ k, tt, t.2)
+text_there view v (Refused name line rule) (Some files) now new file h k t = (t.1 ∙ k, ap (step nothing file) h.0 ∙ t.0, t.2)
 text_there view v ReadFault old now new file h k t = absurd t
 text_there view v WriteFault old now new file h k t = t ∙ k
 text_there view v Memory old now new file h k t = t ∙ k
@@ -90,7 +92,7 @@ pub text_done : (file text bytes : List ℕ) (old new : Option Files) → IsC fi
 text_done file text bytes old new h s = (bytes, h, s)
 
 pub text_refused : (file : Bor (List ℕ)) (text : List ℕ) (line : ℕ) (rule : Rule) (old new : Option Files) → source_in text ≡ Err (line, rule) → new ≡ old → TextComesTo (Refused file line rule) file.now text old new
-text_refused file text line rule old new h k = (stops file.now (front_of text) (line, rule) h, k)
+text_refused file text line rule old new h k = (stops file.now (front_of text) (line, rule) h, k, refl)
 
 -- counts that did not change before
 pub counts_after : (o : Answer) (r r' r'' w w' w'' : ℕ) → r' ≡ r → w' ≡ w → Counts o r' r'' w' w'' → Counts o r r'' w w''
@@ -99,6 +101,12 @@ counts_after o r r' r'' w w' w'' h k c = subst (λ n. Counts o n r'' w w'') h (s
 -- what was pending and did not change before
 pub begins_after : (o : Answer) (file : List ℕ) (p p' p'' b b' b'' : Option (List ℕ)) → p' ≡ p → b' ≡ b → Begins o file p' p'' b' b'' → Begins o file p p'' b b''
 begins_after o file p p' p'' b b' b'' h k c = subst (λ x. Begins o file x p'' b b'') h (subst (λ x. Begins o file p' p'' x b'') k c)
+
+-- a call that takes memory itself, behind one that may or may not
+pub takes_too : (f w : Bool) (m n : ℕ) (r : Result (Unit {0}) PutFault) → HasCause f w m n r → HasCause f true m n r
+takes_too f w m n (Ok u) h = h
+takes_too f w m n (Err put.Failed) h = h
+takes_too f w m n (Err put.Memory) h = (refl, h.1)
 
 -- the pending file under the name of a C file
 pub pending_c : (r : Result (Unit {0}) PutFault) (name file : List ℕ) (old new : Option (List ℕ)) → name ≡ c_name file → IsPending r name new → IsPendingC r file old new

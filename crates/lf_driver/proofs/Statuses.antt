@@ -30,8 +30,12 @@ same_stored s t f p b r w =
     ∙ ap (λ x. stored s.files s.pending s.bytes x t.writes) r
     ∙ ap (stored s.files s.pending s.bytes s.reads) w
 
-same_held : (a b : Held) → b.bytes ≡ a.bytes → b.faults ≡ a.faults → b ≡ a
-same_held a b e f = ap (λ x. held x b.faults) e ∙ ap (held a.bytes) f
+same_held : (a b : Held) → b.bytes ≡ a.bytes → b.faults ≡ a.faults → b.may_fail ≡ a.may_fail → b.takes_memory ≡ a.takes_memory → b ≡ a
+same_held a b e f g h =
+    ap (λ x. held b.may_fail b.takes_memory x b.faults) e
+    ∙ ap (held b.may_fail b.takes_memory a.bytes) f
+    ∙ ap (λ x. held x b.takes_memory a.bytes a.faults) g
+    ∙ ap (λ x. held a.may_fail x a.bytes a.faults) h
 
 -- a fact of the one file that words name
 of_one : (o : Option CommandText) (verb : Verb) (file : List ℕ) (fact : Verb → List (List ℕ) → Type 0) → o ≡ Some (verb, 0, file ∷ []) → fact verb (file ∷ []) → OfCommand o fact
@@ -59,32 +63,32 @@ module _ (c : Call) (file : List ℕ) where
   ast_is v h t = told_weaker c.store.files (λ files. of_shown file (get files file) ≡ v) (λ files. verdict c.words files ≡ v) (λ files e. judged_by c.words Ast file v files h e) t
 
   succeeds : (verb : Verb) → words_of c.words ≡ Some (verb, 0, file ∷ []) → Does Done verb file c.store c.store' c.out c.out' → Succeeds c verb (file ∷ [])
-  succeeds Compile h d = (record { files = told_weaker c.store.files (λ files. Compiles file files c.store'.files) (AreWritten (file ∷ []) c.store'.files) (λ files k. written_one file files c.store'.files k) d.comes.0; pending = d.pending; reads = d.counts.0.0; writes = d.counts.0.1 }, same_held c.out c.out' d.comes.1 d.counts.1)
+  succeeds Compile h d = (record { files = told_weaker c.store.files (λ files. Compiles file files c.store'.files) (AreWritten (file ∷ []) c.store'.files) (λ files k. written_one file files c.store'.files k) d.comes.0; pending = d.pending; reads = d.counts.0.0; writes = d.counts.0.1 }, same_held c.out c.out' d.comes.1 d.counts.1 d.fails d.takes)
   succeeds Ast h d = (same_stored c.store c.store' d.comes.1 d.pending.0 d.pending.1 d.counts.0.0 d.counts.1, d.counts.0.1, (d.comes.0.0, ast_is (Shown (ast_text d.comes.0.0)) h d.comes.0.1, d.comes.0.2))
 
   fails_to_read : (verb : Verb) → Does ReadFault verb file c.store c.store' c.out c.out' → FailsToRead c verb (file ∷ []) × (c.out' ≡ c.out)
-  fails_to_read Compile d = (halts_first IsUnread file c.store c.store' (record { files = d.comes.0; pending = d.pending.0; bytes = d.pending.1; reads = d.counts.0.0; writes = d.counts.0.1 }), same_held c.out c.out' d.comes.1 d.counts.1)
-  fails_to_read Ast d = (record { files = d.comes.1; pending = d.pending.0; bytes = d.pending.1; reads = d.counts.0.0; writes = d.counts.1 }, same_held c.out c.out' d.comes.0 d.counts.0.1)
+  fails_to_read Compile d = (halts_first IsUnread file c.store c.store' (record { files = d.comes.0; pending = d.pending.0; bytes = d.pending.1; reads = d.counts.0.0; writes = d.counts.0.1 }), same_held c.out c.out' d.comes.1 d.counts.1 d.fails d.takes)
+  fails_to_read Ast d = (record { files = d.comes.1; pending = d.pending.0; bytes = d.pending.1; reads = d.counts.0.0; writes = d.counts.1 }, same_held c.out c.out' d.comes.0 d.counts.0.1 d.fails d.takes)
 
   fails_to_write : (verb : Verb) → words_of c.words ≡ Some (verb, 0, file ∷ []) → Does WriteFault verb file c.store c.store' c.out c.out' → FailsToWrite c verb (file ∷ [])
-  fails_to_write Compile h d = (halts_first IsUnwritten file c.store c.store' (record { files = d.comes.0; pending = d.pending; reads = d.counts.0.0; writes = d.counts.0.1 }), same_held c.out c.out' d.comes.1 d.counts.1)
-  fails_to_write Ast h d = (same_stored c.store c.store' d.comes.1 d.pending.0 d.pending.1 d.counts.0.0 d.counts.1, d.counts.0.1, (d.comes.0.0, ast_is (Shown (ast_text d.comes.0.0)) h d.comes.0.1, d.comes.0.2))
+  fails_to_write Compile h d = (halts_first IsUnwritten file c.store c.store' (record { files = d.comes.0; pending = d.pending; reads = d.counts.0.0; writes = d.counts.0.1 }), same_held c.out c.out' d.comes.1 d.counts.1 d.fails d.takes)
+  fails_to_write Ast h d = (same_stored c.store c.store' d.comes.1 d.pending.0 d.pending.1 d.counts.0.0 d.counts.1, d.comes.0.0, d.counts.0.1, (d.comes.0.1.0, ast_is (Shown (ast_text d.comes.0.1.0)) h d.comes.0.1.1, d.comes.0.1.2))
 
   wants_memory : (verb : Verb) → words_of c.words ≡ Some (verb, 0, file ∷ []) → Does Memory verb file c.store c.store' c.out c.out' → WantsMemory c verb (file ∷ [])
-  wants_memory Compile h d = (halts_first IsCutShort file c.store c.store' (record { files = d.comes.0; pending = d.pending; reads = d.counts.0.0; writes = d.counts.0.1 }), same_held c.out c.out' d.comes.1 d.counts.1)
+  wants_memory Compile h d = (halts_first IsCutShort file c.store c.store' (record { files = d.comes.0; pending = d.pending; reads = d.counts.0.0; writes = d.counts.0.1 }), same_held c.out c.out' d.comes.1 d.counts.1 d.fails d.takes)
   wants_memory Ast h d = by d.comes.0
     where
-      by : FileShows Memory file c.store.files c.out.bytes c.out'.bytes → WantsMemory c Ast (file ∷ [])
+      by : FileShows c.out.may_fail c.out.takes_memory Memory file c.store.files c.out.bytes c.out'.bytes → WantsMemory c Ast (file ∷ [])
       by (inl e) = (same_stored c.store c.store' d.comes.1 d.pending.0 d.pending.1 d.counts.0.0 d.counts.1, d.counts.0.1, inl e)
-      by (inr s) = (same_stored c.store c.store' d.comes.1 d.pending.0 d.pending.1 d.counts.0.0 d.counts.1, d.counts.0.1, inr (s.0, ast_is (Shown (ast_text s.0)) h s.1, s.2))
+      by (inr s) = (same_stored c.store c.store' d.comes.1 d.pending.0 d.pending.1 d.counts.0.0 d.counts.1, d.counts.0.1, inr (s.0, (s.1.0, ast_is (Shown (ast_text s.1.0)) h s.1.1, s.1.2)))
 
   stops_absent : (verb : Verb) (name : Bor (List ℕ)) → words_of c.words ≡ Some (verb, 0, file ∷ []) → Does (Absent name) verb file c.store c.store' c.out c.out' → ComesTo c (refusal.Absent name.now)
-  stops_absent Compile name h d = (of_one (words_of c.words) Compile file (StopsAt c) h (halts_first IsUntouched file c.store c.store' (same_stored c.store c.store' d.comes.0.0 d.pending.0 d.pending.1 d.counts.0.0 d.counts.0.1)), same_held c.out c.out' d.comes.1 d.counts.1, compile_refused (refusal.Absent name.now) h d.comes.0.1)
-  stops_absent Ast name h d = (of_one (words_of c.words) Ast file (StopsAt c) h (same_stored c.store c.store' d.comes.1 d.pending.0 d.pending.1 d.counts.0.0 d.counts.1), same_held c.out c.out' d.comes.0.0 d.counts.0.1, ast_is (Refuses (refusal.Absent name.now)) h d.comes.0.1)
+  stops_absent Compile name h d = (of_one (words_of c.words) Compile file (StopsAt c name.now) h (halts_first (IsUntouched name.now) file c.store c.store' (sym d.comes.0.2, same_stored c.store c.store' d.comes.0.0 d.pending.0 d.pending.1 d.counts.0.0 d.counts.0.1)), same_held c.out c.out' d.comes.1 d.counts.1 d.fails d.takes, compile_refused (refusal.Absent name.now) h d.comes.0.1)
+  stops_absent Ast name h d = (of_one (words_of c.words) Ast file (StopsAt c name.now) h (ap (λ x. x ∷ []) (sym d.comes.0.2), same_stored c.store c.store' d.comes.1 d.pending.0 d.pending.1 d.counts.0.0 d.counts.1), same_held c.out c.out' d.comes.0.0 d.counts.0.1 d.fails d.takes, ast_is (Refuses (refusal.Absent name.now)) h d.comes.0.1)
 
   stops_refused : (verb : Verb) (name : Bor (List ℕ)) (line : ℕ) (rule : Rule) → words_of c.words ≡ Some (verb, 0, file ∷ []) → Does (Refused name line rule) verb file c.store c.store' c.out c.out' → ComesTo c (refusal.Refused name.now line rule)
-  stops_refused Compile name line rule h d = (of_one (words_of c.words) Compile file (StopsAt c) h (halts_first IsUntouched file c.store c.store' (same_stored c.store c.store' d.comes.0.0 d.pending.0 d.pending.1 d.counts.0.0 d.counts.0.1)), same_held c.out c.out' d.comes.1 d.counts.1, compile_refused (refusal.Refused name.now line rule) h d.comes.0.1)
-  stops_refused Ast name line rule h d = (of_one (words_of c.words) Ast file (StopsAt c) h (same_stored c.store c.store' d.comes.1 d.pending.0 d.pending.1 d.counts.0.0 d.counts.1), same_held c.out c.out' d.comes.0.0 d.counts.0.1, ast_is (Refuses (refusal.Refused name.now line rule)) h d.comes.0.1)
+  stops_refused Compile name line rule h d = (of_one (words_of c.words) Compile file (StopsAt c name.now) h (halts_first (IsUntouched name.now) file c.store c.store' (sym d.comes.0.2, same_stored c.store c.store' d.comes.0.0 d.pending.0 d.pending.1 d.counts.0.0 d.counts.0.1)), same_held c.out c.out' d.comes.1 d.counts.1 d.fails d.takes, compile_refused (refusal.Refused name.now line rule) h d.comes.0.1)
+  stops_refused Ast name line rule h d = (of_one (words_of c.words) Ast file (StopsAt c name.now) h (ap (λ x. x ∷ []) (sym d.comes.0.2), same_stored c.store c.store' d.comes.1 d.pending.0 d.pending.1 d.counts.0.0 d.counts.1), same_held c.out c.out' d.comes.0.0 d.counts.0.1 d.fails d.takes, ast_is (Refuses (refusal.Refused name.now line rule)) h d.comes.0.1)
 
 -- A refusal is told, or what is told in its place.
 module _ (c : Call) (came : Answer) (refused : Refusal) (same : text_of came ≡ refusal_text refused) (comes : ComesTo c refused) (own : Tells c.err c.err' (refusal_text refused) → Answered (status_of came) c) where

@@ -1,5 +1,5 @@
 -- What the status of a call tells, status by status.
-use Rattle.std.specs.Prelude.{◌≡◌, ℕ, zero, suc, ◌-◌, ◌^◌, ◌<◌, ◌≤◌, List, [], ◌∷◌, ◌++◌, Option, Some, None, ◌⊎◌}
+use Rattle.std.specs.Prelude.{◌≡◌, ℕ, Bool, true, false, zero, suc, ◌-◌, ◌^◌, ◌<◌, ◌≤◌, List, [], ◌∷◌, ◌++◌, Option, Some, None, ◌⊎◌}
 use Rattle.lf_base.specs.declared.fault.PutFault.{PutFault}
 use Rattle.lf_base.specs.declared.fault.PutFault.TheVariants.{Failed, Memory}
 use Rattle.lf_base.specs.declared.rule.Rule.{Rule}
@@ -47,9 +47,9 @@ pub record Halts (Ends : List ℕ → Stored → Stored → Type 0) (names : Lis
   pub behind : IsBehind front old between
   pub ends : Ends file between new
 
--- No file is begun, and nothing is counted.
-abbrev pub IsUntouched : List ℕ → Stored → Stored → Type 0
-IsUntouched file old new = new ≡ old
+-- Of the file of this name none is begun, and nothing is counted.
+abbrev pub IsUntouched : List ℕ → List ℕ → Stored → Stored → Type 0
+IsUntouched name file old new = (file ≡ name) × (new ≡ old)
 
 -- A read failed, and nothing else has changed.
 pub record IsUnread (file : List ℕ) (old new : Stored) : Type 0 where
@@ -89,16 +89,16 @@ abbrev pub Succeeds : Call → Verb → List (List ℕ) → Type 0
 Succeeds c Compile names = IsCompiled names c.store c.store' × (c.out' ≡ c.out)
 Succeeds c Ast names = (c.store' ≡ c.store) × (c.out'.faults ≡ c.out.faults) × ShowsTree c
 
--- A file is refused: those before it are compiled, and of it none is begun.
-abbrev pub StopsAt : Call → Verb → List (List ℕ) → Type 0
-StopsAt c Compile names = Halts IsUntouched names c.store c.store'
-StopsAt c Ast names = c.store' ≡ c.store
+-- The file of this name is refused: those before it are compiled, and of it none is begun.
+abbrev pub StopsAt : Call → List ℕ → Verb → List (List ℕ) → Type 0
+StopsAt c name Compile names = Halts (IsUntouched name) names c.store c.store'
+StopsAt c name Ast names = (names ≡ name ∷ []) × (c.store' ≡ c.store)
 
 -- what a call does that ends by this refusal
 abbrev pub ComesTo : Call → Refusal → Type 0
 ComesTo c refusal.Usage = (words_of c.words ≡ None) × (c.store' ≡ c.store) × (c.out' ≡ c.out)
-ComesTo c (refusal.Absent name) = OfCommand (words_of c.words) (StopsAt c) × (c.out' ≡ c.out) × Judges c (Refuses (refusal.Absent name))
-ComesTo c (refusal.Refused name line rule) = OfCommand (words_of c.words) (StopsAt c) × (c.out' ≡ c.out) × Judges c (Refuses (refusal.Refused name line rule))
+ComesTo c (refusal.Absent name) = OfCommand (words_of c.words) (StopsAt c name) × (c.out' ≡ c.out) × Judges c (Refuses (refusal.Absent name))
+ComesTo c (refusal.Refused name line rule) = OfCommand (words_of c.words) (StopsAt c name) × (c.out' ≡ c.out) × Judges c (Refuses (refusal.Refused name line rule))
 
 abbrev pub IsRefused : Call → Refusal → Type 0
 IsRefused c refusal = ComesTo c refusal × Tells c.err c.err' (refusal_text refusal)
@@ -107,14 +107,14 @@ abbrev pub FailsToRead : Call → Verb → List (List ℕ) → Type 0
 FailsToRead c Compile names = Halts IsUnread names c.store c.store'
 FailsToRead c Ast names = IsUnread [] c.store c.store'
 
--- The store could not be written, or the sink of the trees.
+-- The store could not be written, or the sink of the trees, which may fail.
 abbrev pub FailsToWrite : Call → Verb → List (List ℕ) → Type 0
 FailsToWrite c Compile names = Halts IsUnwritten names c.store c.store' × (c.out' ≡ c.out)
-FailsToWrite c Ast names = (c.store' ≡ c.store) × Rose c.out.faults c.out'.faults × ShowsFront c
+FailsToWrite c Ast names = (c.store' ≡ c.store) × (c.out.may_fail ≡ true) × Rose c.out.faults c.out'.faults × ShowsFront c
 
 abbrev pub WantsMemory : Call → Verb → List (List ℕ) → Type 0
 WantsMemory c Compile names = Halts IsCutShort names c.store c.store' × (c.out' ≡ c.out)
-WantsMemory c Ast names = (c.store' ≡ c.store) × (c.out'.faults ≡ c.out.faults) × ((c.out'.bytes ≡ c.out.bytes) ⊎ ShowsFront c)
+WantsMemory c Ast names = (c.store' ≡ c.store) × (c.out'.faults ≡ c.out.faults) × ((c.out'.bytes ≡ c.out.bytes) ⊎ ((c.out.takes_memory ≡ true) × ShowsFront c))
 
 -- The text of a refusal could not be written by this fault, and another one was tried.
 abbrev pub IsUntold : PutFault → Call → List ℕ → Type 0
@@ -130,6 +130,19 @@ Answered (suc (suc (suc zero))) c = OfCommand (words_of c.words) (FailsToRead c)
 Answered (suc (suc (suc (suc zero)))) c = (OfCommand (words_of c.words) (FailsToWrite c) × Tries c.err c.err' write_fault_text) ⊎ IsUntold Failed c write_fault_text
 Answered (suc (suc (suc (suc (suc zero))))) c = (OfCommand (words_of c.words) (WantsMemory c) × Tries c.err c.err' memory_text) ⊎ IsUntold Memory c memory_text
 Answered (suc (suc (suc (suc (suc (suc status)))))) c = ⊥
+
+-- The text of the status stands whole on the sink of texts: none of 0, the refusal of 1 and 2, and one text each of 3 to 5.
+abbrev pub Says : ℕ → Call → Type 0
+Says zero c = c.err' ≡ c.err
+Says (suc zero) c = (refused : Refusal) × IsRefused c refused
+Says (suc (suc zero)) c = (refused : Refusal) × IsRefused c refused
+Says (suc (suc (suc zero))) c = Tells c.err c.err' read_fault_text
+Says (suc (suc (suc (suc zero)))) c = Tells c.err c.err' write_fault_text
+Says (suc (suc (suc (suc (suc status))))) c = Tells c.err c.err' memory_text
+
+-- It does where that sink neither fails nor takes memory.
+abbrev pub IsSaid : ℕ → Call → Type 0
+IsSaid status c = c.err.may_fail ≡ false → c.err.takes_memory ≡ false → Says status c
 
 -- no count rose
 abbrev pub Quiet : Call → Type 0

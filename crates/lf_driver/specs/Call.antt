@@ -1,5 +1,5 @@
 -- What the objects of a call tell, before it and behind it.
-use Rattle.std.specs.Prelude.{ℕ, List, Option, Result, Ok, Err}
+use Rattle.std.specs.Prelude.{◌≡◌, ℕ, Bool, List, Option, Result, Ok, Err}
 use Rattle.lf_base.specs.declared.fault.PutFault.{PutFault}
 use Rattle.lf_base.specs.Files.{Files}
 use Rattle.lf_base.specs.Puts.{Puts, Causes}
@@ -18,6 +18,9 @@ pub record Stored : Type 0 where
 pub record Held : Type 0 where
   pub bytes : Option (List ℕ)
   pub faults : ℕ
+  -- whether its writes may fail, and whether they take memory
+  pub may_fail : Bool
+  pub takes_memory : Bool
 
 -- Each object stands twice, the second time as the call leaves it.
 pub record Call : Type 0 where
@@ -31,11 +34,14 @@ pub record Call : Type 0 where
   pub err : Held
   pub err' : Held
 
--- A text was put, and so it ended: the sink has gained all of it, or a front of it where a put failed, and only a failure
--- that is no want of memory raises the count.
+-- A text was put, and so it ended: the sink has gained all of it, or a front of it where a put failed, which is only where
+-- it may fail or takes memory, and only a failure that is no want of memory raises the count.
 pub record IsTried (ended : Result (Unit {0}) PutFault) (old new : Held) (text : List ℕ) : Type 0 where
   pub gains : Puts (Ok tt) ended old.bytes new.bytes text
-  pub counts : Causes (Ok tt) ended old.faults new.faults
+  pub counts : Causes old.may_fail old.takes_memory (Ok tt) ended old.faults new.faults
+  -- what may come of later writes stays
+  pub fails : new.may_fail ≡ old.may_fail
+  pub takes : new.takes_memory ≡ old.takes_memory
 
 -- It was put, however it ended.
 abbrev pub Tries : Held → Held → List ℕ → Type 0
@@ -52,5 +58,5 @@ TellsInstead fault old new first second = (between : Held) × IsTried (Err fault
 abbrev pub stored : Option Files → Option (List ℕ) → Option (List ℕ) → ℕ → ℕ → Stored
 stored files pending bytes reads writes = record { files = files; pending = pending; bytes = bytes; reads = reads; writes = writes }
 
-abbrev pub held : Option (List ℕ) → ℕ → Held
-held bytes faults = record { bytes = bytes; faults = faults }
+abbrev pub held : Bool → Bool → Option (List ℕ) → ℕ → Held
+held may_fail takes_memory bytes faults = record { bytes = bytes; faults = faults; may_fail = may_fail; takes_memory = takes_memory }

@@ -60,7 +60,7 @@ abbrev pub TextComesTo : Answer → List ℕ → List ℕ → Option Files → O
 TextComesTo outcome.Done file text old new = (bytes : List ℕ) × IsC file text bytes × Saved old (c_name file) bytes new
 TextComesTo outcome.Usage file text old new = ⊥
 TextComesTo (outcome.Absent name) file text old new = ⊥
-TextComesTo (outcome.Refused name line rule) file text old new = (step nothing file (Some text) ≡ Stops (refusal.Refused name.now line rule)) × (new ≡ old)
+TextComesTo (outcome.Refused name line rule) file text old new = (step nothing file (Some text) ≡ Stops (refusal.Refused name.now line rule)) × (new ≡ old) × (name.now ≡ file)
 TextComesTo outcome.ReadFault file text old new = ⊥
 TextComesTo outcome.WriteFault file text old new = new ≡ old
 TextComesTo outcome.Memory file text old new = new ≡ old
@@ -77,8 +77,8 @@ pub record Compiles (file : List ℕ) (files : Files) (new : Option Files) : Typ
 abbrev pub FileComesTo : Answer → List ℕ → Option Files → Option Files → Type 0
 FileComesTo outcome.Done file old new = Told old (λ files. Compiles file files new)
 FileComesTo outcome.Usage file old new = ⊥
-FileComesTo (outcome.Absent name) file old new = (new ≡ old) × Told old (λ files. step nothing file (get files file) ≡ Stops (refusal.Absent name.now))
-FileComesTo (outcome.Refused name line rule) file old new = (new ≡ old) × Told old (λ files. step nothing file (get files file) ≡ Stops (refusal.Refused name.now line rule))
+FileComesTo (outcome.Absent name) file old new = (new ≡ old) × Told old (λ files. step nothing file (get files file) ≡ Stops (refusal.Absent name.now)) × (name.now ≡ file)
+FileComesTo (outcome.Refused name line rule) file old new = (new ≡ old) × Told old (λ files. step nothing file (get files file) ≡ Stops (refusal.Refused name.now line rule)) × (name.now ≡ file)
 FileComesTo outcome.ReadFault file old new = new ≡ old
 FileComesTo outcome.WriteFault file old new = new ≡ old
 FileComesTo outcome.Memory file old new = new ≡ old

@@ -1,5 +1,5 @@
 -- How a call ends: what came, its status, what it leaves in the store, what it writes, and which counts of faults rose.
-use Rattle.std.specs.Prelude.{◌≡◌, ℕ, List, [], ◌∷◌, Option, Some, None, Result, Ok, Err, ◌⊎◌}
+use Rattle.std.specs.Prelude.{◌≡◌, ℕ, Bool, List, [], ◌∷◌, Option, Some, None, Result, Ok, Err, ◌⊎◌}
 use Rattle.lf_base.specs.Contents.{joined}
 use Rattle.lf_base.specs.declared.fault.PutFault.{PutFault}
 use Rattle.lf_base.specs.declared.fault.PutFault.TheVariants as put
@@ -35,10 +35,10 @@ text_of ReadFault = read_fault_text
 text_of WriteFault = write_fault_text
 text_of Memory = memory_text
 
--- what comes of a file by the verb
-abbrev pub VerbComesTo : Answer → Verb → List ℕ → Option Files → Option Files → Option (List ℕ) → Option (List ℕ) → Type 0
-VerbComesTo came Compile file old new shown shown' = FileComesTo came file old new × (shown' ≡ shown)
-VerbComesTo came Ast file old new shown shown' = FileShows came file old shown shown' × (new ≡ old)
+-- what comes of a file by the verb, where the sink of the trees may fail or take memory or not
+abbrev pub VerbComesTo : Bool → Bool → Answer → Verb → List ℕ → Option Files → Option Files → Option (List ℕ) → Option (List ℕ) → Type 0
+VerbComesTo may_fail takes_memory came Compile file old new shown shown' = FileComesTo came file old new × (shown' ≡ shown)
+VerbComesTo may_fail takes_memory came Ast file old new shown shown' = FileShows may_fail takes_memory came file old shown shown' × (new ≡ old)
 
 -- what is then pending
 abbrev pub VerbBegins : Answer → Verb → List ℕ → Option (List ℕ) → Option (List ℕ) → Option (List ℕ) → Option (List ℕ) → Type 0
@@ -62,9 +62,11 @@ VerbCounts came Ast reads reads' writes writes' puts puts' = Counts came reads r
 
 -- What came of a file by the verb, and what the store and the sink of the trees then tell.
 pub record Does (came : Answer) (verb : Verb) (file : List ℕ) (store store' : Stored) (out out' : Held) : Type 0 where
-  pub comes : VerbComesTo came verb file store.files store'.files out.bytes out'.bytes
+  pub comes : VerbComesTo out.may_fail out.takes_memory came verb file store.files store'.files out.bytes out'.bytes
   pub pending : VerbBegins came verb file store.pending store'.pending store.bytes store'.bytes
   pub counts : VerbCounts came verb store.reads store'.reads store.writes store'.writes out.faults out'.faults
+  pub fails : out'.may_fail ≡ out.may_fail
+  pub takes : out'.takes_memory ≡ out.takes_memory
 
 -- The words are no command, or the file that they name comes to this.
 abbrev pub Performs : Answer → List (List ℕ) → Stored → Stored → Held → Held → Type 0

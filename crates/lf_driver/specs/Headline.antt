@@ -14,7 +14,7 @@ use Rattle.c_semantics.specs.Program.{IsProgram}
 use Rattle.ff_lexer.specs.Statements.{Spelled}
 use Rattle.ff_lexer.specs.Told.{StatementsOf}
 use Rattle.ff_parser.specs.Files.{IsFile}
-use Rattle.lf_driver.specs.Answers.{Answered, IsExact, IsCounted}
+use Rattle.lf_driver.specs.Answers.{Answered, IsSaid, IsExact, IsCounted}
 use Rattle.lf_driver.specs.Call.{Call}
 use Rattle.lf_driver.specs.OnePrint.Built.{program_in}
 use Rattle.lf_driver.specs.OnePrint.Lowered.{c_file}
@@ -104,6 +104,7 @@ KeepsMeaning status c = status ≡ 0 → (files : Files) → c.store.files ≡ S
 -- What the top call promises.
 pub record Promises (status : ℕ) (c : Call) : Type 0 where
   pub answered : Answered status c
+  pub said : IsSaid status c
   pub exact : IsExact status c
   pub counted : IsCounted status c
   pub meaning : KeepsMeaning status c

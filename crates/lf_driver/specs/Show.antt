@@ -1,5 +1,5 @@
 -- What comes of one file whose tree is printed.
-use Rattle.std.specs.Prelude.{◌≡◌, ℕ, List, Option, Result, Ok, Err, ◌⊎◌}
+use Rattle.std.specs.Prelude.{◌≡◌, ℕ, Bool, true, List, Option, Result, Ok, Err, ◌⊎◌}
 use Rattle.std.specs.FinMap.{get}
 use Rattle.lf_base.specs.declared.fault.SyntaxFault.{SyntaxFault}
 use Rattle.lf_base.specs.declared.fault.SyntaxFault.TheVariants as syntax
@@ -31,26 +31,26 @@ GainsFront IsTree old new = (tree : File) × IsTree tree × AppendsPart old new 
 abbrev pub IsTreeOf : List ℕ → File → Type 0
 IsTreeOf text tree = front_of text ≡ Ok tree
 
--- what comes of a file whose text was read, and what the sink then holds
-abbrev pub TextShows : Answer → List ℕ → List ℕ → Option (List ℕ) → Option (List ℕ) → Type 0
-TextShows outcome.Done file text old new = Gains (IsTreeOf text) old new
-TextShows outcome.Usage file text old new = ⊥
-TextShows (outcome.Absent name) file text old new = ⊥
-TextShows (outcome.Refused name line rule) file text old new = (of_tree file (front_of text) ≡ Refuses (refusal.Refused name.now line rule)) × (new ≡ old)
-TextShows outcome.ReadFault file text old new = ⊥
-TextShows outcome.WriteFault file text old new = GainsFront (IsTreeOf text) old new
-TextShows outcome.Memory file text old new = (new ≡ old) ⊎ GainsFront (IsTreeOf text) old new
+-- what comes of a file whose text was read, and what the sink then holds, which may fail or take memory or not
+abbrev pub TextShows : Bool → Bool → Answer → List ℕ → List ℕ → Option (List ℕ) → Option (List ℕ) → Type 0
+TextShows f w outcome.Done file text old new = Gains (IsTreeOf text) old new
+TextShows f w outcome.Usage file text old new = ⊥
+TextShows f w (outcome.Absent name) file text old new = ⊥
+TextShows f w (outcome.Refused name line rule) file text old new = (of_tree file (front_of text) ≡ Refuses (refusal.Refused name.now line rule)) × (new ≡ old) × (name.now ≡ file)
+TextShows f w outcome.ReadFault file text old new = ⊥
+TextShows f w outcome.WriteFault file text old new = (f ≡ true) × GainsFront (IsTreeOf text) old new
+TextShows f w outcome.Memory file text old new = (new ≡ old) ⊎ ((w ≡ true) × GainsFront (IsTreeOf text) old new)
 
 -- the tree of the file of a name
 abbrev pub IsTreeIn : List ℕ → Option Files → File → Type 0
 IsTreeIn file there tree = Told there (λ files. of_shown file (get files file) ≡ Shown (ast_text tree))
 
 -- what comes of a file of this name
-abbrev pub FileShows : Answer → List ℕ → Option Files → Option (List ℕ) → Option (List ℕ) → Type 0
-FileShows outcome.Done file there old new = Gains (IsTreeIn file there) old new
-FileShows outcome.Usage file there old new = ⊥
-FileShows (outcome.Absent name) file there old new = (new ≡ old) × Told there (λ files. of_shown file (get files file) ≡ Refuses (refusal.Absent name.now))
-FileShows (outcome.Refused name line rule) file there old new = (new ≡ old) × Told there (λ files. of_shown file (get files file) ≡ Refuses (refusal.Refused name.now line rule))
-FileShows outcome.ReadFault file there old new = new ≡ old
-FileShows outcome.WriteFault file there old new = GainsFront (IsTreeIn file there) old new
-FileShows outcome.Memory file there old new = (new ≡ old) ⊎ GainsFront (IsTreeIn file there) old new
+abbrev pub FileShows : Bool → Bool → Answer → List ℕ → Option Files → Option (List ℕ) → Option (List ℕ) → Type 0
+FileShows f w outcome.Done file there old new = Gains (IsTreeIn file there) old new
+FileShows f w outcome.Usage file there old new = ⊥
+FileShows f w (outcome.Absent name) file there old new = (new ≡ old) × Told there (λ files. of_shown file (get files file) ≡ Refuses (refusal.Absent name.now)) × (name.now ≡ file)
+FileShows f w (outcome.Refused name line rule) file there old new = (new ≡ old) × Told there (λ files. of_shown file (get files file) ≡ Refuses (refusal.Refused name.now line rule)) × (name.now ≡ file)
+FileShows f w outcome.ReadFault file there old new = new ≡ old
+FileShows f w outcome.WriteFault file there old new = (f ≡ true) × GainsFront (IsTreeIn file there) old new
+FileShows f w outcome.Memory file there old new = (new ≡ old) ⊎ ((w ≡ true) × GainsFront (IsTreeIn file there) old new)

@@ -70,14 +70,15 @@ fn save<S: Store>(store: &mut S, name: &str, bytes: &[u8]) -> Result<(), PutFaul
     ensures err { OnErr result (S.files store.new ≡ S.files store.old) }
     ensures pending { IsPending result name.now (S.pending store.new) }
     ensures read_faults { S.read_faults store.new ≡ S.read_faults store.old }
-    ensures cause { HasCause (S.Sink.faults store.old) (S.Sink.faults store.new) result }
+    ensures cause { HasCause S.Sink.may_fail S.Sink.takes_memory (S.Sink.faults store.old) (S.Sink.faults store.new) result }
 {
     store.start(name)?;
     store.put(bytes)?;
     store.finish()
 }
 
-#[tactic(auto, using(crate::proofs::Saving::pending_c))]
+// Puts the C file of a source into the store. Its name takes memory.
+#[tactic(auto, using(crate::proofs::Saving::pending_c, crate::proofs::Saving::takes_too))]
 fn write_file<S: Store>(
     alloc: Global,
     file: &str,
@@ -89,7 +90,7 @@ fn write_file<S: Store>(
     ensures err { OnErr result (S.files store.new ≡ S.files store.old) }
     ensures pending { IsPendingC result file.now (S.pending store.old) (S.pending store.new) }
     ensures read_faults { S.read_faults store.new ≡ S.read_faults store.old }
-    ensures cause { HasCause (S.Sink.faults store.old) (S.Sink.faults store.new) result }
+    ensures cause { HasCause S.Sink.may_fail true (S.Sink.faults store.old) (S.Sink.faults store.new) result }
 {
     match c_name(alloc, file) {
         Ok(name) => save(store, name.as_str(), text),

@@ -20,7 +20,7 @@ fn do_file<'a, S: Store, O: Sink>(
     out: &mut O,
 ) -> Answer<'a>
     requires { ends_as_source file.now ≡ true }
-    ensures comes { VerbComesTo result verb file.now (S.files store.old) (S.files store.new) (O.contents out.old) (O.contents out.new) }
+    ensures comes { VerbComesTo O.may_fail O.takes_memory result verb file.now (S.files store.old) (S.files store.new) (O.contents out.old) (O.contents out.new) }
     ensures pending { VerbBegins result verb file.now (S.pending store.old) (S.pending store.new) (S.contents store.old) (S.contents store.new) }
     ensures counts { VerbCounts result verb (S.read_faults store.old) (S.read_faults store.new) (S.Sink.faults store.old) (S.Sink.faults store.new) (O.faults out.old) (O.faults out.new) }
     ensures out { shown_by verb ≡ false → out.new ≡ out.old }
@@ -40,7 +40,7 @@ fn perform<'a, S: Store, O: Sink>(
     store: &mut S,
     out: &mut O,
 ) -> Answer<'a>
-    ensures comes { Performs result (map string_bytes words.now) (stored (S.files store.old) (S.pending store.old) (S.contents store.old) (S.read_faults store.old) (S.Sink.faults store.old)) (stored (S.files store.new) (S.pending store.new) (S.contents store.new) (S.read_faults store.new) (S.Sink.faults store.new)) (held (O.contents out.old) (O.faults out.old)) (held (O.contents out.new) (O.faults out.new)) }
+    ensures comes { Performs result (map string_bytes words.now) (stored (S.files store.old) (S.pending store.old) (S.contents store.old) (S.read_faults store.old) (S.Sink.faults store.old)) (stored (S.files store.new) (S.pending store.new) (S.contents store.new) (S.read_faults store.new) (S.Sink.faults store.new)) (held O.may_fail O.takes_memory (O.contents out.old) (O.faults out.old)) (held O.may_fail O.takes_memory (O.contents out.new) (O.faults out.new)) }
     ensures usage { words_of (map string_bytes words.now) ≡ None → store.new ≡ store.old }
     ensures out { shows (words_of (map string_bytes words.now)) ≡ false → out.new ≡ out.old }
     ensures keeps { O.keeps out.old out.new }
@@ -75,10 +75,10 @@ pub fn lf_main<S: Store, I: Source, O: Sink, E: Sink>(
       words = map string_bytes words.now;
       store = stored (S.files store.old) (S.pending store.old) (S.contents store.old) (S.read_faults store.old) (S.Sink.faults store.old);
       store' = stored (S.files store.new) (S.pending store.new) (S.contents store.new) (S.read_faults store.new) (S.Sink.faults store.new);
-      out = held (O.contents out.old) (O.faults out.old);
-      out' = held (O.contents out.new) (O.faults out.new);
-      err = held (E.contents err.old) (E.faults err.old);
-      err' = held (E.contents err.new) (E.faults err.new);
+      out = held O.may_fail O.takes_memory (O.contents out.old) (O.faults out.old);
+      out' = held O.may_fail O.takes_memory (O.contents out.new) (O.faults out.new);
+      err = held E.may_fail E.takes_memory (E.contents err.old) (E.faults err.old);
+      err' = held E.may_fail E.takes_memory (E.contents err.new) (E.faults err.new);
     }) }
     ensures usage { words_of (map string_bytes words.now) ≡ None → store.new ≡ store.old }
     ensures out { shows (words_of (map string_bytes words.now)) ≡ false → out.new ≡ out.old }

@@ -34,7 +34,7 @@ type Ended = Result<(), PutFault>;
 
 fn put<O: Sink>(before: Ended, out: &mut O, piece: &[u8]) -> Ended
     ensures text { Puts before result (O.contents out.old) (O.contents out.new) piece.now }
-    ensures cause { Causes before result (O.faults out.old) (O.faults out.new) }
+    ensures cause { Causes O.may_fail O.takes_memory before result (O.faults out.old) (O.faults out.new) }
     ensures keeps { O.keeps out.old out.new }
 {
     match before {
@@ -45,7 +45,7 @@ fn put<O: Sink>(before: Ended, out: &mut O, piece: &[u8]) -> Ended
 
 fn put_number<O: Sink>(before: Ended, out: &mut O, number: u32) -> Ended
     ensures text { Puts before result (O.contents out.old) (O.contents out.new) (decimal number) }
-    ensures cause { Causes before result (O.faults out.old) (O.faults out.new) }
+    ensures cause { Causes O.may_fail O.takes_memory before result (O.faults out.old) (O.faults out.new) }
     ensures keeps { O.keeps out.old out.new }
 {
     let mut buffer = Buffer::new();
@@ -55,7 +55,7 @@ fn put_number<O: Sink>(before: Ended, out: &mut O, number: u32) -> Ended
 #[tactic(auto, using(lf_base::proofs::Chains::chains))]
 fn put_absent<O: Sink>(before: Ended, out: &mut O, name: &[u8]) -> Ended
     ensures text { Puts before result (O.contents out.old) (O.contents out.new) (joined (codes "lf: no such file: " ∷ name.now ∷ codes "\n" ∷ [])) }
-    ensures cause { Causes before result (O.faults out.old) (O.faults out.new) }
+    ensures cause { Causes O.may_fail O.takes_memory before result (O.faults out.old) (O.faults out.new) }
     ensures keeps { O.keeps out.old out.new }
 {
     let ended = put(before, out, b"lf: no such file: ");
@@ -66,7 +66,7 @@ fn put_absent<O: Sink>(before: Ended, out: &mut O, name: &[u8]) -> Ended
 #[tactic(auto, using(lf_base::proofs::Chains::chains))]
 fn put_rule<O: Sink>(before: Ended, out: &mut O, rule: Rule) -> Ended
     ensures text { Puts before result (O.contents out.old) (O.contents out.new) (joined (decimal (number_of rule) ∷ codes "\n" ∷ [])) }
-    ensures cause { Causes before result (O.faults out.old) (O.faults out.new) }
+    ensures cause { Causes O.may_fail O.takes_memory before result (O.faults out.old) (O.faults out.new) }
     ensures keeps { O.keeps out.old out.new }
 {
     let ended = put_number(before, out, u32::from(rule.number()));
@@ -76,7 +76,7 @@ fn put_rule<O: Sink>(before: Ended, out: &mut O, rule: Rule) -> Ended
 #[tactic(auto, using(lf_base::proofs::Chains::chains))]
 fn put_refused<O: Sink>(before: Ended, out: &mut O, name: &[u8], line: u32, rule: Rule) -> Ended
     ensures text { Puts before result (O.contents out.old) (O.contents out.new) (joined (name.now ∷ codes ":" ∷ decimal line ∷ codes ": E" ∷ joined (decimal (number_of rule) ∷ codes "\n" ∷ []) ∷ [])) }
-    ensures cause { Causes before result (O.faults out.old) (O.faults out.new) }
+    ensures cause { Causes O.may_fail O.takes_memory before result (O.faults out.old) (O.faults out.new) }
     ensures keeps { O.keeps out.old out.new }
 {
     let ended = put(before, out, name);
@@ -89,7 +89,7 @@ fn put_refused<O: Sink>(before: Ended, out: &mut O, name: &[u8], line: u32, rule
 #[tactic(auto, using(lf_base::proofs::Chains::chains, lf_base::proofs::Chains::causes_none))]
 fn put_nothing<O: Sink>(before: Ended, out: &mut O) -> Ended
     ensures text { Puts before result (O.contents out.old) (O.contents out.new) (joined []) }
-    ensures cause { Causes before result (O.faults out.old) (O.faults out.new) }
+    ensures cause { Causes O.may_fail O.takes_memory before result (O.faults out.old) (O.faults out.new) }
     ensures keeps { O.keeps out.old out.new }
 {
     before
@@ -97,7 +97,7 @@ fn put_nothing<O: Sink>(before: Ended, out: &mut O) -> Ended
 
 fn put_text<O: Sink>(before: Ended, out: &mut O, outcome: Answer) -> Ended
     ensures text { Puts before result (O.contents out.old) (O.contents out.new) (text_of outcome.entry) }
-    ensures cause { Causes before result (O.faults out.old) (O.faults out.new) }
+    ensures cause { Causes O.may_fail O.takes_memory before result (O.faults out.old) (O.faults out.new) }
     ensures keeps { O.keeps out.old out.new }
 {
     match outcome {
@@ -120,7 +120,7 @@ fn put_text<O: Sink>(before: Ended, out: &mut O, outcome: Answer) -> Ended
 // Tells what came. Where that can't be written, the fault that this is is told in its place.
 #[tactic(auto, using(crate::proofs::Tellings::tellings))]
 fn tell<E: Sink>(err: &mut E, outcome: Answer) -> Result<(), PutFault>
-    ensures tells { TellsOr outcome.entry result (held (E.contents err.old) (E.faults err.old)) (held (E.contents err.new) (E.faults err.new)) }
+    ensures tells { TellsOr outcome.entry result (held E.may_fail E.takes_memory (E.contents err.old) (E.faults err.old)) (held E.may_fail E.takes_memory (E.contents err.new) (E.faults err.new)) }
     ensures keeps { E.keeps err.old err.new }
 {
     match put_text(Ok(()), err, outcome) {
@@ -140,7 +140,7 @@ fn tell<E: Sink>(err: &mut E, outcome: Answer) -> Result<(), PutFault>
 /// tried once.
 #[tactic(auto, using(crate::proofs::Tellings::tellings))]
 pub(crate) fn report<'a, E: Sink>(err: &mut E, outcome: Answer<'a>) -> Answer<'a>
-    ensures reports { Reports outcome.entry result (held (E.contents err.old) (E.faults err.old)) (held (E.contents err.new) (E.faults err.new)) }
+    ensures reports { Reports outcome.entry result (held E.may_fail E.takes_memory (E.contents err.old) (E.faults err.old)) (held E.may_fail E.takes_memory (E.contents err.new) (E.faults err.new)) }
     ensures keeps { E.keeps err.old err.new }
 {
     match outcome {

@@ -36,7 +36,7 @@ fn tree_text(alloc: Global, source: &[u8]) -> Result<SureSink, SyntaxFault>
 // What comes of a file whose text was read. The whole text is put at once, and only where it could be made.
 #[tactic(auto, using(crate::proofs::Showing::tree_shown, crate::proofs::Showing::front_shown, crate::proofs::Showing::tree_refused))]
 fn show_text<'a, O: Sink>(alloc: Global, file: &'a str, source: &[u8], out: &mut O) -> Answer<'a>
-    ensures shows { TextShows result file.now source.now (O.contents out.old) (O.contents out.new) }
+    ensures shows { TextShows O.may_fail O.takes_memory result file.now source.now (O.contents out.old) (O.contents out.new) }
     ensures keeps { O.keeps out.old out.new }
     ensures counts { Counts result 0 0 (O.faults out.old) (O.faults out.new) }
 {
@@ -63,7 +63,7 @@ pub(crate) fn show_file<'a, S: Store, O: Sink>(
     store: &mut S,
     out: &mut O,
 ) -> Answer<'a>
-    ensures shows { FileShows result file.now (S.files store.old) (O.contents out.old) (O.contents out.new) }
+    ensures shows { FileShows O.may_fail O.takes_memory result file.now (S.files store.old) (O.contents out.old) (O.contents out.new) }
     ensures keeps { O.keeps out.old out.new }
     ensures files { S.files store.new ≡ S.files store.old }
     ensures pending { S.pending store.new ≡ S.pending store.old }

@@ -333,6 +333,70 @@ fn a_removal_closes_the_order(rt: HostRuntime) -> Result<(), Fail> {
     Ok(())
 }
 
+/// Takes out two symbols of the root at once, each with the table that it owns.
+fn remove_both(rt: &impl Abort, arena: &mut Arena<u32>, first: SymId, second: SymId) {
+    assert!(rt; arena.has_table(ROOT));
+    assert!(rt; arena.live(first) && arena.live(second));
+    assert!(rt; arena.table_of(first) == ROOT && arena.table_of(second) == ROOT);
+    assert!(rt; arena.owns_no_owner(first) && arena.owns_no_owner(second));
+    arena.remove_all_owned(ROOT, &[first, second])
+}
+
+#[test]
+fn owners_are_taken_out_at_once(rt: HostRuntime) -> Result<(), Fail> {
+    let alloc = rt.alloc();
+    let mut arena = sample(&rt, alloc)?;
+    assert!(rt; !arena.owns_no_owner(SymId(0)));
+    assert!(rt; arena.owns_no_owner(SymId(2)));
+    for text in [b"q", b"r"] {
+        let _ = declare_owner(&rt, alloc, &mut arena, ROOT, text, 0)?;
+    }
+    let _ = declare(&rt, alloc, &mut arena, TableId(3), b"x", 0)?;
+    remove_both(&rt, &mut arena, SymId(5), SymId(6));
+    check_order(&rt, &arena, &[0]);
+    check_counts(&rt, &arena, 5, 8, 5);
+    assert!(rt; !arena.live(SymId(7)));
+    assert!(rt; !arena.has_table(TableId(3)) && !arena.has_table(TableId(4)));
+    Ok(())
+}
+
+/// Checks the symbol at a place of the root.
+fn check_place(rt: &impl Abort, arena: &Arena<u32>, place: usize, number: u32) {
+    assert_eq!(rt; arena.at(ROOT, place), Some(SymId(number)), "at {place}");
+}
+
+#[test]
+fn places_are_far(rt: HostRuntime) -> Result<(), Fail> {
+    let alloc = rt.alloc();
+    let mut arena: Arena<u32> = Arena::new(alloc)?;
+    for number in 0..70_001u32 {
+        let name = Name::new(alloc, &number.to_le_bytes())?;
+        arena.linked();
+        let _ = arena.declare(ROOT, &name, number)?;
+    }
+    check_place(&rt, &arena, 101, 101);
+    check_place(&rt, &arena, 70_000, 70_000);
+    let near = Name::new(alloc, b"near")?;
+    assert_eq!(rt;
+        declare_before(&rt, &mut arena, 101, &near, 1),
+        Ok(SymId(70_001))
+    );
+    let far = Name::new(alloc, b"far")?;
+    assert_eq!(rt;
+        declare_before(&rt, &mut arena, 70_000, &far, 2),
+        Ok(SymId(70_002))
+    );
+    for (place, number) in [
+        (101, 70_001),
+        (102, 101),
+        (70_000, 70_002),
+        (70_001, 69_999),
+    ] {
+        check_place(&rt, &arena, place, number);
+    }
+    Ok(())
+}
+
 #[test]
 fn the_numbers_end(rt: HostRuntime) -> Result<(), Fail> {
     let alloc = rt.alloc();

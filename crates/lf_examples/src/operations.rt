@@ -6,7 +6,7 @@ use lf_base::Rule;
 use sqlite_items::Items;
 use std::alloc::{AllocError, Global};
 use std::test::Fail;
-use type_rules::{Const, Op, TypeFault, code, fold};
+use type_rules::{Const, Elem, Len, Op, TypeFault, assigned_constant, code, fold};
 
 /// An operand, or what is wanted of an operation.
 #[derive(Clone, Copy)]
@@ -548,6 +548,23 @@ fn long_text(alloc: Global, count: usize) -> Result<Const, AllocError> {
     Ok(Const::CharConst {
         bytes: Items::from_vec(bytes),
     })
+}
+
+#[test]
+fn long_texts_stay_whole(rt: HostRuntime) -> Result<(), Fail> {
+    let alloc = rt.alloc();
+    let mut args = Vec::new(alloc);
+    args.push(long_text(alloc, 65_535)?)?;
+    assert!(rt; is_wanted(&fold(alloc, LEN_TRIM, args.as_slice()), &Int(4, 65_535)));
+    let same = fold(alloc, TRIM, args.as_slice());
+    assert!(rt; matches!(&same, Ok(text) if *text == args[0]));
+    let long = Elem::Character {
+        len: Len::Fixed { n: 65_535 },
+    };
+    let short = constant(alloc, &Text(b"a"))?;
+    let padded = assigned_constant(alloc, long, &short);
+    assert!(rt; matches!(&padded, Ok(Const::CharConst { bytes }) if bytes.len() == 65_535));
+    Ok(())
 }
 
 #[test]

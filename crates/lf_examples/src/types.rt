@@ -6,7 +6,8 @@ use sqlite_items::Items;
 use std::alloc::{AllocError, Global};
 use std::test::Fail;
 use type_rules::{
-    Dim, Elem, Len, Op, Ty, TypeFault, code, distinguishable, resolve_generic, same_type, unify,
+    Dim, Elem, Len, Op, Ty, TypeFault, code, distinguishable, resolve_generic, same_type, type_of,
+    unify,
 };
 
 /// A type, by its element and its dimensions.
@@ -162,6 +163,118 @@ const TEXTS: [Case; 9] = [
     ),
 ];
 
+const PLANES: [Case; 12] = [
+    (
+        code::ADD,
+        (I4, &[LOW, ANY]),
+        (I4, &[]),
+        Gives((I4, &[ONE, ANY])),
+    ),
+    (
+        code::POWER,
+        (I4, &[]),
+        (I8, &[LOW, THREE]),
+        Gives((I8, &[ONE, THREE])),
+    ),
+    (
+        code::ADD,
+        (I8, &[ANY, ANY]),
+        (I4, &[LOW, THREE]),
+        Gives((I8, &[ONE, THREE])),
+    ),
+    (
+        code::LT,
+        (I4, &[ONE, THREE]),
+        (I8, &[]),
+        Gives((L, &[ONE, THREE])),
+    ),
+    (
+        code::LT,
+        (I4, &[]),
+        (I8, &[ONE, THREE]),
+        Gives((L, &[ONE, THREE])),
+    ),
+    (
+        code::EQ,
+        (C3, &[ONE, ANY]),
+        (CX, &[]),
+        Gives((L, &[ONE, ANY])),
+    ),
+    (
+        code::EQ,
+        (C3, &[]),
+        (CX, &[ONE, ANY]),
+        Gives((L, &[ONE, ANY])),
+    ),
+    (
+        code::OR,
+        (L, &[ONE, THREE]),
+        (L, &[]),
+        Gives((L, &[ONE, THREE])),
+    ),
+    (
+        code::OR,
+        (L, &[]),
+        (L, &[ONE, THREE]),
+        Gives((L, &[ONE, THREE])),
+    ),
+    (
+        code::OR,
+        (L, &[ONE, THREE]),
+        (L, &[ONE]),
+        Breaks(Rule::E404),
+    ),
+    (
+        code::CONCATENATE,
+        (C3, &[ONE, ONE]),
+        (C5, &[]),
+        Breaks(Rule::E404),
+    ),
+    (
+        code::EQ,
+        (C3, &[ONE, THREE]),
+        (C5, &[THREE, THREE]),
+        Breaks(Rule::E412),
+    ),
+];
+
+/// Functions on arrays of rank 2 and scalars.
+const ON_PLANES: [(u8, &'static [Shape], Want); 9] = [
+    (
+        code::MOD,
+        &[(I4, &[LOW, ANY]), (I8, &[])],
+        Gives((I8, &[ONE, ANY])),
+    ),
+    (
+        code::SIGN,
+        &[(I4, &[]), (I8, &[ONE, ONE])],
+        Gives((I4, &[ONE, ONE])),
+    ),
+    (
+        code::MIN,
+        &[(I4, &[]), (I4, &[ANY, THREE]), (I8, &[ONE, ANY])],
+        Gives((I8, &[ONE, THREE])),
+    ),
+    (
+        code::MAX,
+        &[(I4, &[ONE, ONE]), (I4, &[]), (I4, &[ONE])],
+        Breaks(Rule::E404),
+    ),
+    (
+        code::MAX,
+        &[(I4, &[ONE, ONE]), (I4, &[]), (I4, &[ONE, THREE])],
+        Breaks(Rule::E412),
+    ),
+    (
+        code::INDEX,
+        &[(C3, &[ONE, THREE]), (CX, &[])],
+        Gives((I4, &[ONE, THREE])),
+    ),
+    (code::SUM, &[(I8, &[ONE, THREE])], Gives((I8, &[]))),
+    (code::COUNT, &[(L, &[ONE, ANY])], Gives((I4, &[]))),
+    (code::SUM, &[(I8, &[])], Breaks(Rule::E406)),
+];
+
 const SHAPES: [Case; 17] = [
     (code::ADD, (I4, &[ONE]), (I4, &[]), Gives((I4, &[ONE]))),
     (code::ADD, (I4, &[LOW]), (I4, &[]), Gives((I4, &[ONE]))),
@@ -254,9 +367,26 @@ fn types_of_logicals_and_texts(rt: HostRuntime) -> Result<(), Fail> {
     Ok(())
 }
 
+/// The place of the first call of a function that answers otherwise, if one does.
+fn first_wrong_call(
+    alloc: Global,
+    cases: &[(u8, &[Shape], Want)],
+) -> Result<Option<usize>, AllocError> {
+    for (at, case) in cases.iter().enumerate() {
+        let args = types(alloc, case.1)?;
+        let got = type_of(alloc, Op::Intrinsic(case.0), args.as_slice());
+        if !is_wanted(&got, &case.2) {
+            return Ok(Some(at));
+        }
+    }
+    Ok(None)
+}
+
 #[test]
 fn types_of_arrays(rt: HostRuntime) -> Result<(), Fail> {
     assert_eq!(rt; first_wrong(rt.alloc(), &SHAPES)?, None);
+    assert_eq!(rt; first_wrong(rt.alloc(), &PLANES)?, None);
+    assert_eq!(rt; first_wrong_call(rt.alloc(), &ON_PLANES)?, None);
     Ok(())
 }
 

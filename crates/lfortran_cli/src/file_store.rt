@@ -1,6 +1,6 @@
 //! The files of the system as a store. What it is given goes to a temporary file in the folder of the
 //! pending one, which takes the place of the older file only as a whole.
-ghost use Rattle.std.specs.Prelude.{◌≡◌, None, refl, IfOk, string_bytes};
+ghost use Rattle.std.specs.Prelude.{◌≡◌, true, None, refl, IfOk, string_bytes};
 ghost use Rattle.lfortran_cli.specs.FileStore.{name_of, Keeps, keeps_same_lem, keeps_further_lem};
 
 use lf_base::{GetFault, PutFault, Sink, Store};
@@ -152,6 +152,10 @@ impl Sink for FileStore {
     ghost contents = { λ _. None };
 
     ghost faults = { λ s. s.faults };
+
+    ghost may_fail = { true };
+
+    ghost takes_memory = { true };
 
     ghost keeps = { Keeps };
 

@@ -1,4 +1,4 @@
-ghost use Rattle.std.specs.Prelude.{◌≡◌, None};
+ghost use Rattle.std.specs.Prelude.{◌≡◌, true, false, None};
 
 use lf_base::{PutFault, Sink};
 use std::io::{self, Stdout, Write};
@@ -27,6 +27,10 @@ impl Sink for Output {
     ghost contents = { λ _. None };
 
     ghost faults = { λ s. s.faults };
+
+    ghost may_fail = { true };
+
+    ghost takes_memory = { false };
 
     ghost keeps = { λ _ _. Unit {0} };
 

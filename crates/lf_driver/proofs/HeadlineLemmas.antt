@@ -4,7 +4,6 @@ use Rattle.std.specs.List.{AllByRecursion}
 use Rattle.std.specs.Cmp.{eq_by_cmp_equiv}
 use Rattle.std.specs.Cmp.Lexicographic.{nat_list_cmp_total}
 use Rattle.std.specs.FinMap.{get, insert, get-insert}
-use Rattle.lf_base.specs.declared.fault.PutFault.{PutFault}
 use Rattle.lf_base.specs.Files.{Files}
 use Rattle.ast_nodes.specs.declared.file.File.{File}
 use Rattle.ff_lexer.specs.Statements.{Spelled, Found, statements_of}
@@ -17,12 +16,11 @@ use Rattle.lf_driver.specs.declared.command.Verb.{Verb}
 use Rattle.lf_driver.specs.declared.command.Verb.TheVariants.{Compile, Ast}
 use Rattle.lf_driver.specs.declared.outcome.Answer.{Answer}
 use Rattle.lf_driver.specs.declared.outcome.Answer.TheVariants.{Done, Usage, Absent, Refused, ReadFault, WriteFault, Memory}
-use Rattle.lf_driver.specs.Answers.{Answered}
 use Rattle.lf_driver.specs.Call.{Held, Call}
 use Rattle.lf_driver.specs.Compile.{Compiles}
 use Rattle.lf_driver.specs.Ends.{status_of, Does, Performs, Announces, Reports}
 use Rattle.lf_driver.specs.Front.{then_file}
-use Rattle.lf_driver.specs.Headline.{Listed, IsListed, programs, HaveOneProgram, IsFaithful, Means, KeepsMeaning, Promises}
+use Rattle.lf_driver.specs.Headline.{Listed, programs, HaveOneProgram, IsFaithful, Means, KeepsMeaning, Promises}
 use Rattle.lf_driver.specs.OnePrint.Emits.{IsBounded, IsFit}
 use Rattle.lf_driver.specs.OnePrint.Lowered.{c_file}
 use Rattle.lf_driver.specs.OnePrint.Source.{Source, location_of, IsLocation}

@@ -1,5 +1,5 @@
 -- What comes of a file whose tree is printed.
-use Rattle.std.proofs.Common.{◌≡◌, ℕ, Bool, true, refl, List, Option, Some, None, Ok, Err, inl, inr, ap, subst, ◌∙◌}
+use Rattle.std.proofs.Common.{◌≡◌, ℕ, Bool, refl, List, Option, Some, None, Ok, Err, inl, inr, ap, subst, ◌∙◌}
 use denote.Ref.{Bor}
 use Rattle.lf_base.specs.declared.rule.Rule.{Rule}
 use Rattle.lf_base.specs.declared.rule.Rule.TheVariants.{E108}

@@ -1,6 +1,6 @@
 -- The words of a command are texts, so what they are made of are bytes; and a source's name has at most 255 of them.
 use Rattle.std.proofs.Common.{◌≡◌, ℕ, ◌<◌, ◌≤◌, Bool, true, false, List, [], ◌∷◌, ◌++◌, ◌+◌, ◌/◌, ◌%◌, length, map, Option, Some, None, string_bytes, cond, refl, ap, subst, arith}
-use Rattle.std.specs.Prelude.{◌&&◌, ltb}
+use Rattle.std.specs.Prelude.{ltb}
 use Rattle.std.specs.declared.string.String.{String}
 use Rattle.std.specs.List.{AllByRecursion}
 use Rattle.std.specs.Char.{encode_utf8}

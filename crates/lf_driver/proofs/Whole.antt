@@ -1,8 +1,8 @@
 -- On a sink of texts that neither fails nor takes memory the text of each status stands whole.
-use Rattle.std.proofs.Common.{◌≡◌, ℕ, zero, suc, false, List, Ok, Err, inl, inr, sym, ◌∙◌}
+use Rattle.std.proofs.Common.{◌≡◌, ℕ, zero, suc, false, List, Ok, Err, inl, inr}
 use Rattle.lf_base.specs.declared.fault.PutFault.{PutFault}
 use Rattle.lf_base.specs.declared.fault.PutFault.TheVariants.{Failed, Memory}
-use Rattle.lf_driver.specs.Answers.{Answered, Says, IsSaid}
+use Rattle.lf_driver.specs.Answers.{Answered, IsSaid}
 use Rattle.lf_driver.specs.Call.{Held, Call, IsTried, Tries, Tells, TellsInstead}
 use Rattle.lf_driver.specs.Refusal as refusal
 

@@ -11,7 +11,7 @@ use Rattle.ast_nodes.specs.declared.file.Unit.TheVariants.{Program, Module}
 use Rattle.ast_nodes.specs.declared.statement.Statement.{Statement}
 use Rattle.lf_driver.specs.Compile.{Compiles}
 use Rattle.lf_driver.specs.Known.{nothing, with_units, second_line}
-use Rattle.lf_driver.specs.OnePrint.Built.{Building, is_name_byte, is_print, seen, line_seen, value_seen, line_behind, ended, printing, body_in, declared_in, unit_in, units_in, program_in}
+use Rattle.lf_driver.specs.OnePrint.Built.{Building, is_name_byte, is_print, seen, line_seen, value_seen, line_behind, ended, printing, body_in, declared_in, unit_in, units_in}
 use Rattle.lf_driver.specs.OnePrint.Built as built
 use Rattle.lf_driver.specs.OnePrint.Source.{Tree, Source}
 use Rattle.lf_driver.specs.Verdict.{Writes, c_name, unless_second, step_of_built, step_of_tree, step, then_more, left_by, AreWritten}

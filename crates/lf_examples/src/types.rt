@@ -248,7 +248,7 @@ const ON_PLANES: [(u8, &'static [Shape], Want); 9] = [
     (
         code::SIGN,
         &[(I4, &[]), (I8, &[ONE, ONE])],
-        Gives((I4, &[ONE, ONE])),
+        Gives((I8, &[ONE, ONE])),
     ),
     (
         code::MIN,

@@ -3,7 +3,7 @@ use Rattle.std.proofs.Common.{◌≡◌, ℕ, suc, ◌+◌, ◌^◌, ◌<◌, �
 use Rattle.std.specs.Fmt.{signed_decimal}
 use Rattle.std.proofs.Math.IntN.{ℤ, pos}
 use Rattle.std.proofs.lemmas.Int.{ints}
-use Rattle.lf_base.specs.Outcome.{Location, Written, Fault, Undefined, Outcome, Ended, Cut, Wrong, IsBegun, Extends, KeepsLocation, Never, written}
+use Rattle.lf_base.specs.Outcome.{Location, Written, Fault, Undefined, Outcome, Ended, Wrong, IsBegun, Extends, KeepsLocation, Never, written}
 use Rattle.lf_base.specs.Acts.{Going, Stopped, bind, give, given, print, outcome_of}
 use Rattle.lf_base.specs.Near.{IsNearBy, slack, Near, Agree, IsMonotone}
 use Rattle.lf_base.specs.Traps.{trap_status, trap_text}
@@ -18,7 +18,7 @@ use Rattle.c_nodes.specs.declared.tree.CExpr.TheVariants.{Variable, Constant, Ad
 use Rattle.c_nodes.specs.declared.tree.CStmt.TheVariants.{DeclareValue, Call, Return, ReturnValue, Block}
 use Rattle.c_semantics.specs.CValues.{W32, W64, Base, Local, Number, Pointer, fits}
 use Rattle.c_semantics.specs.CState.{State, find_name, slot_of, with_slot, put_object, closed}
-use Rattle.c_semantics.specs.CMeaning.{Element, address_of, named, designated, by_content, within_object, all_given, written_byte, Returned, Doing, Calls, calls_of, call, on_procedure, first_of, external_in, started, block, clause, statement, statements, status_of, begin, CMeaning}
+use Rattle.c_semantics.specs.CMeaning.{Element, address_of, named, by_content, within_object, all_given, written_byte, Returned, Doing, Calls, calls_of, call, on_procedure, first_of, external_in, started, block, clause, statement, statements, status_of, begin, CMeaning}
 use Rattle.c_prelude.specs.PreludeLaws.{HasPrelude, trap_turns, aged}
 use Rattle.c_semantics.proofs.CStmts.{does-Return, does-Block}
 use Rattle.c_semantics.proofs.CExprs.{exprs}
@@ -28,10 +28,10 @@ use Rattle.c_semantics.proofs.CMonotone.{meaning_monotone}
 use Rattle.c_prelude.proofs.PreludeGap.{gap_law}
 use Rattle.c_prelude.proofs.PreludeInts.{int_law}
 use Rattle.lf_driver.specs.OnePrint.Source.{Source, IsLocation}
-use Rattle.lf_driver.specs.OnePrint.Lowered.{temporary, temporary_value, count, lowered, printing_begins, printing_ends, printed, init_name, lowered_items, lowered_file, main_body}
+use Rattle.lf_driver.specs.OnePrint.Lowered.{temporary_value, count, lowered, printing_begins, printing_ends, printed, init_name, lowered_items, lowered_file, main_body}
 use Rattle.lf_driver.specs.OnePrint.Fortran.{IsSmall, value_of, value_or_trap, FortranMeaning}
-use Rattle.lf_driver.proofs.OnePrint.Temporaries.{Temporary, temp, object, number_in, names_of, objects_of, Falls, other_id, same_id, same_name, Holds, holds_temp}
-use Rattle.lf_driver.proofs.OnePrint.Evaluates.{around_at, main_state, overflow, Gives, Ends, lowered_ends, aged_is, value_is}
+use Rattle.lf_driver.proofs.OnePrint.Temporaries.{Temporary, object, number_in, names_of, objects_of, Falls, other_id, holds_temp}
+use Rattle.lf_driver.proofs.OnePrint.Evaluates.{around_at, main_state, overflow, Ends, lowered_ends, aged_is, value_is}
 use Rattle.lf_driver.proofs.OnePrint.ProgramNames.{init_procedure, init_found}
 use Rattle.lf_driver.proofs.Straight.{append_going, append_stopped}
 

@@ -1,6 +1,5 @@
 -- What the statements of a lowered value do: they end with its value in the last temporary, or in the trap.
 use Rattle.std.proofs.Common.{◌≡◌, ℕ, zero, suc, ◌+◌, ◌^◌, ◌<◌, ◌≤◌, Bool, true, false, List, [], ◌∷◌, ◌++◌, length, map, Option, Some, None, codes, cond, refl, sym, ap, subst, ◌∙◌, arith, length-append, append_assoc}
-use Rattle.std.specs.Str.{bytes_eq}
 use Rattle.std.proofs.Math.IntN.{ℤ, pos}
 use Rattle.std.proofs.lemmas.Int.{ints}
 use Rattle.lf_base.specs.Outcome.{Location, Written, Outcome, Ended}
@@ -14,7 +13,7 @@ use Rattle.c_nodes.specs.declared.tree.CType.TheVariants.{Int64}
 use Rattle.c_nodes.specs.declared.tree.CExpr.{CExpr}
 use Rattle.c_nodes.specs.declared.tree.CExpr.TheVariants.{Variable, Constant, Literal as Text'}
 use Rattle.c_nodes.specs.declared.tree.CStmt.TheVariants.{Assign}
-use Rattle.c_semantics.specs.CValues.{Width, W32, W64, Base, Local, Text, Outside, CValue, Number, Pointer, fits, checked}
+use Rattle.c_semantics.specs.CValues.{Width, W32, W64, Base, Local, Text, Outside, Number, Pointer, fits, checked}
 use Rattle.c_semantics.specs.CValues as values
 use Rattle.c_semantics.specs.CState.{Cells, Leads, Around, State, read_from}
 use Rattle.c_semantics.specs.CMeaning.{reading, variable_value, value_at, by_content, named, Element, stored_in, newest, begin_object, all_given, Doing, Calls, calls_of, statement, statements}
@@ -29,7 +28,7 @@ use Rattle.lf_driver.specs.declared.one_print.built.Operator.TheVariants.{Add, S
 use Rattle.lf_driver.specs.OnePrint.Source.{Tree, Literal, Binary, IsLocation}
 use Rattle.lf_driver.specs.OnePrint.Lowered.{temporary, temporary_value, helper, constant, computed, fitted, noted, operation, count, lowered}
 use Rattle.lf_driver.specs.OnePrint.Fortran.{IsSmall, exact, operated, of_kind4, value_of}
-use Rattle.lf_driver.proofs.OnePrint.Temporaries.{Few, Temporary, temp, object, names_of, objects_of, Falls, falls_further, same_id, find_none, Holds, holds_temp, holds_behind}
+use Rattle.lf_driver.proofs.OnePrint.Temporaries.{Few, Temporary, names_of, objects_of, Falls, same_id, find_none, Holds, holds_temp, holds_behind}
 use Rattle.lf_driver.proofs.Straight.{append_going, append_stopped, stop_declare_call}
 
 -- the objects that a helper declares

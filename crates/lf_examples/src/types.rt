@@ -268,7 +268,7 @@ const ON_PLANES: [(u8, &'static [Shape], Want); 9] = [
     (
         code::INDEX,
         &[(C3, &[ONE, THREE]), (CX, &[])],
-        Gives((I4, &[ONE, THREE])),
+        Breaks(Rule::E404),
     ),
     (code::SUM, &[(I8, &[ONE, THREE])], Gives((I8, &[]))),
     (code::COUNT, &[(L, &[ONE, ANY])], Gives((I4, &[]))),

@@ -1,0 +1,11 @@
+pub mod Alike
+pub mod ArrayItems
+pub mod Avoids
+pub mod Begins
+pub mod Counts
+pub mod Grows
+pub mod PrintItems
+pub mod Pushes
+pub mod Replaces
+pub mod Same
+pub mod Walks

@@ -1,0 +1,46 @@
+-- What a symbol's node names.
+use Rattle.std.specs.Prelude.{ℕ, Bool, true, false, List, [], Option, Some, None}
+use Rattle.lf_base.specs.declared.id.TableId.{TableId}
+use Rattle.asr_nodes.specs.Keys.{Key, exprs, stmts}
+use Rattle.asr_nodes.specs.declared.node.Symbol.{Symbol}
+use Rattle.asr_nodes.specs.declared.node.Symbol.TheVariants.{Program, Module, Function, Variable, Struct, Generic, External}
+
+-- its own table
+abbrev pub table_in : Symbol → Option TableId
+table_in (Program source deps table body) = Some table
+table_in (Module source deps table) = Some table
+table_in (Function access dummies result simple table body) = Some table
+table_in (Variable access ty storage intent init) = None
+table_in (Struct access table) = Some table
+table_in (Generic access specifics) = None
+table_in (External access home original) = None
+
+-- the same with another table, where it has one
+abbrev pub with_table : TableId → Symbol → Symbol
+with_table t (Program source deps table body) = Program source deps t body
+with_table t (Module source deps table) = Module source deps t
+with_table t (Function access dummies result simple table body) = Function access dummies result simple t body
+with_table t (Variable access ty storage intent init) = Variable access ty storage intent init
+with_table t (Struct access table) = Struct access t
+with_table t (Generic access specifics) = Generic access specifics
+with_table t (External access home original) = External access home original
+
+-- the keys of the expressions and statements that it names
+abbrev pub symbol_parts : Symbol → List Key
+symbol_parts (Program source deps table body) = stmts body
+symbol_parts (Module source deps table) = []
+symbol_parts (Function access dummies result simple table body) = stmts body
+symbol_parts (Variable access ty storage intent init) = exprs init
+symbol_parts (Struct access table) = []
+symbol_parts (Generic access specifics) = []
+symbol_parts (External access home original) = []
+
+-- whether it is a main program or a module
+abbrev pub is_unit : Symbol → Bool
+is_unit (Program source deps table body) = true
+is_unit (Module source deps table) = true
+is_unit (Function access dummies result simple table body) = false
+is_unit (Variable access ty storage intent init) = false
+is_unit (Struct access table) = false
+is_unit (Generic access specifics) = false
+is_unit (External access home original) = false

@@ -1,5 +1,6 @@
 -- No nodes, and the root table with no symbol.
 use Rattle.std.proofs.Common.{◌≡◌, ℕ, List, [], ◌∷◌, slice_get, Option, Some, None, is_some, false, true, refl, sym, ap, subst, ◌∙◌, true≢false}
+use Rattle.lf_base.specs.declared.id.TableId.{TableId}
 use Rattle.symtab_arena.specs.Scopes.{Scopes, the_root}
 use Rattle.asr_nodes.specs.Keys.{Key, expr, stmt, Node}
 use Rattle.asr_nodes.specs.Nodes.{Nodes, Sound, empty, node_at, node_count}
@@ -20,8 +21,9 @@ empty_sound : Sound empty
 empty_sound = record {
   founded = record { ends_from = no_node };
   owned = λ id it e. absurd (none_is it e);
+  units = λ id it e. absurd (none_is it e);
   named = λ id it e. absurd (none_is it e);
 }
 
-pub new_sound : (scopes : Scopes Symbol) (exprs : List Expr) (stmts : List Stmt) → scopes ≡ the_root → exprs ≡ [] → stmts ≡ [] → Sound (record { scopes = scopes; exprs = exprs; stmts = stmts })
-new_sound scopes exprs stmts a b c = subst (λ (n : Nodes). Sound n) (λ k. record { scopes = sym a k; exprs = sym b k; stmts = sym c k }) empty_sound
+pub new_sound : (scopes : Scopes Symbol) (exprs : List Expr) (stmts : List Stmt) (noted : List (TableId × List ℕ)) → scopes ≡ the_root → exprs ≡ [] → stmts ≡ [] → noted ≡ [] → Sound (record { scopes = scopes; exprs = exprs; stmts = stmts; noted = noted })
+new_sound scopes exprs stmts noted a b c d = subst (λ (n : Nodes). Sound n) (λ k. record { scopes = sym a k; exprs = sym b k; stmts = sym c k; noted = sym d k }) empty_sound

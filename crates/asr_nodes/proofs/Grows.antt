@@ -83,6 +83,7 @@ module _ (a : Nodes) (h : Sound a) where
     grown_sound = record {
       founded = subst (λ n. Founded parts (node_at b) n) (sym counted) (more_founded parts (node_at a) (node_at b) (node_count a) h.founded holds ends_either);
       owned = λ id it e. h.owned id it (sym (ap (λ s. symbol_at s id) scopes) ∙ e);
+      units = λ id it e. h.units id it (sym (ap (λ s. symbol_at s id) scopes) ∙ e);
       named = λ id it e. all_there (symbol_parts it.what) (h.named id it (sym (ap (λ s. symbol_at s id) scopes) ∙ e));
     }
 

@@ -4,8 +4,10 @@ pub mod Avoids
 pub mod Begins
 pub mod Counts
 pub mod Grows
+pub mod Places
 pub mod PrintItems
 pub mod Pushes
 pub mod Replaces
 pub mod Same
+pub mod Symbols
 pub mod Walks

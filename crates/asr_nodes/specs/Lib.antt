@@ -4,4 +4,5 @@ pub mod Nodes
 pub mod Parts
 pub mod Reading
 pub mod Symbols
+pub mod Units
 pub mod Walks

@@ -1,5 +1,5 @@
 -- The nodes of a program by number, and the trees that they stand for.
-use Rattle.std.specs.Prelude.{◌≡◌, ℕ, ◌+◌, ◌<◌, ◌≤◌, Bool, true, List, [], ◌∷◌, ◌++◌, length, slice_get, slice_set, Option, Some, None, Result, Ok, Err, is_some}
+use Rattle.std.specs.Prelude.{◌≡◌, ℕ, ◌+◌, ◌<◌, ◌≤◌, Bool, true, ◌==◌, List, [], ◌∷◌, ◌++◌, length, slice_get, slice_set, Option, Some, None, Result, Ok, Err, is_some}
 use Rattle.std.specs.List.{list_all}
 use Rattle.lf_base.specs.declared.id.ExprId.{ExprId}
 use Rattle.lf_base.specs.declared.id.StmtId.{StmtId}
@@ -11,7 +11,7 @@ use Rattle.symtab_arena.specs.declared.table.Symbol.{Symbol as Entry}
 use Rattle.asr_nodes.specs.Walks.{ends, Founded, tree_within}
 use Rattle.asr_nodes.specs.Keys.{Key, expr, stmt, Node, Tree, is_other, exprs, stmts}
 use Rattle.asr_nodes.specs.Parts.{parts, expr_parts, stmt_parts}
-use Rattle.asr_nodes.specs.Symbols.{table_in, symbol_parts}
+use Rattle.asr_nodes.specs.Symbols.{table_in, is_unit, symbol_parts}
 use Rattle.asr_nodes.specs.Reading.{Path, Reading, reading, node_tree, no_tree, expr_node, stmt_node}
 use Rattle.asr_nodes.specs.declared.node.Symbol.{Symbol}
 use Rattle.asr_nodes.specs.declared.node.Expr.{Expr}
@@ -24,6 +24,8 @@ pub record Nodes : Type 0 where
   pub scopes : Scopes Symbol
   pub exprs : List Expr
   pub stmts : List Stmt
+  -- the ambiguous names of tables, the last noted last; they are no part of any tree
+  pub noted : List (TableId × List ℕ)
 
 module _ (a : Nodes) where
   -- how many nodes there are: no walk that ends has more steps
@@ -63,10 +65,12 @@ module _ (a : Nodes) where
   HasStmt id = id.0 < length a.stmts
 
   -- Every walk over the nodes ends. Exactly the units, functions and types own a table, which is the one that they name
-  -- (ISO/IEC 1539-1:2018, 19.1), and the expressions and statements that symbols name are there.
+  -- (ISO/IEC 1539-1:2018, 19.1), exactly the units stand in the root table, and the expressions and statements that
+  -- symbols name are there.
   pub record Sound : Type 0 where
     pub founded : Founded parts node_at node_count
     pub owned : (id : SymId) (it : Entry Symbol) → symbol_at a.scopes id ≡ Some it → it.owned ≡ table_in it.what
+    pub units : (id : SymId) (it : Entry Symbol) → symbol_at a.scopes id ≡ Some it → is_unit it.what ≡ (it.table.0 == 0)
     pub named : (id : SymId) (it : Entry Symbol) → symbol_at a.scopes id ≡ Some it → there (symbol_parts it.what) ≡ true
 
 -- All nodes that stood stand, with the trees that they had.
@@ -118,4 +122,4 @@ StmtStandsFor old new x (Err fault) = Unit {0}
 
 -- the root table with no symbol, and no nodes
 abbrev pub empty : Nodes
-empty = record { scopes = the_root; exprs = []; stmts = [] }
+empty = record { scopes = the_root; exprs = []; stmts = []; noted = [] }

@@ -1,6 +1,11 @@
 -- What a symbol's node names.
-use Rattle.std.specs.Prelude.{ℕ, Bool, true, false, List, [], Option, Some, None}
+use Rattle.std.specs.Prelude.{◌≡◌, ℕ, Bool, true, false, if◌then◌else◌, List, [], length, Option, Some, None, is_some}
+use Rattle.lf_base.specs.declared.id.SymId.{SymId}
 use Rattle.lf_base.specs.declared.id.TableId.{TableId}
+use Rattle.symtab_arena.specs.Changes.{declared_in, owner_declared_in}
+use Rattle.symtab_arena.specs.Paths.{path_of}
+use Rattle.symtab_arena.specs.Scopes.{Scopes, symbol_at, next_table, names_in}
+use Rattle.symtab_arena.specs.declared.table.Symbol.{Symbol as Entry}
 use Rattle.asr_nodes.specs.Keys.{Key, exprs, stmts}
 use Rattle.asr_nodes.specs.declared.node.Symbol.{Symbol}
 use Rattle.asr_nodes.specs.declared.node.Symbol.TheVariants.{Program, Module, Function, Variable, Struct, Generic, External}
@@ -44,3 +49,19 @@ is_unit (Variable access ty storage intent init) = false
 is_unit (Struct access table) = false
 is_unit (Generic access specifics) = false
 is_unit (External access home original) = false
+
+-- The symbols with one more, last in its table. A symbol that names a table gets a new empty one, and names that.
+abbrev pub with_symbol : Scopes Symbol → TableId → List ℕ → Symbol → Scopes Symbol
+with_symbol a t name x =
+    if is_some (table_in x)
+    then owner_declared_in a t (length (names_in a t)) name (with_table (next_table a) x)
+    else declared_in a t (length (names_in a t)) name x
+
+-- It may stand in the place of another: it names the same table, and either both are units or neither is.
+pub record IsLike (old new : Symbol) : Type 0 where
+  pub table : table_in new ≡ table_in old
+  pub unit : is_unit new ≡ is_unit old
+
+-- every live symbol keeps its path
+abbrev pub KeepsPaths : Scopes Symbol → Scopes Symbol → Type 0
+KeepsPaths old new = (id : SymId) (it : Entry Symbol) → symbol_at old id ≡ Some it → path_of new id ≡ path_of old id

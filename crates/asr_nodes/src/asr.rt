@@ -9,9 +9,10 @@ ghost use Rattle.asr_nodes.specs.Symbols.{symbol_parts, table_in};
 ghost use Rattle.symtab_arena.specs.Scopes.{IsLive, what_of, owned_by};
 
 mod build;
+mod edit;
 
 use crate::node::{Expr, Stmt, Symbol};
-use lf_base::{ExprId, Memory, StmtId, SymId};
+use lf_base::{ExprId, Memory, Name, StmtId, SymId, TableId};
 use std::alloc::Global;
 use std::marker::Model;
 use symtab_arena::Arena;
@@ -26,6 +27,7 @@ pub struct Asr {
     arena: Arena<Symbol>,
     exprs: Vec<Expr>,
     stmts: Vec<Stmt>,
+    noted: Vec<(TableId, Name)>,
 }
 
 impl Model for Asr {
@@ -38,9 +40,9 @@ impl Model for Asr {
 
     ghost coded = { Prim.hlevel (codes, item.the_row.coded, printed.the_row.coded) };
 
-    ghost view = { λ a. record { scopes = a.arena; exprs = a.exprs.items; stmts = a.stmts.items } };
+    ghost view = { λ a. record { scopes = a.arena; exprs = a.exprs.items; stmts = a.stmts.items; noted = a.noted.items } };
 
-    ghost invariant = { λ a. Sound (record { scopes = a.arena; exprs = a.exprs.items; stmts = a.stmts.items }) };
+    ghost invariant = { λ a. Sound (record { scopes = a.arena; exprs = a.exprs.items; stmts = a.stmts.items; noted = a.noted.items }) };
 }
 
 impl Asr {
@@ -53,6 +55,7 @@ impl Asr {
             arena: Arena::new(alloc)?,
             exprs: Vec::new(alloc),
             stmts: Vec::new(alloc),
+            noted: Vec::new(alloc),
         })
     }
 

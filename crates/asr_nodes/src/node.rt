@@ -1,4 +1,7 @@
 //! The nodes of the typed tree: symbols, expressions and statements, which name their parts by number.
+ghost use Rattle.std.specs.Prelude.{◌≡◌, is_some};
+ghost use Rattle.asr_nodes.specs.Symbols.{table_in, with_table};
+
 use crate::ids::ExprIds;
 use lf_base::{ExprId, Name, StmtId, SymId, TableId};
 use sqlite_items::Items;
@@ -360,4 +363,64 @@ pub enum Stmt {
     End {
         line: u32,
     },
+}
+
+impl Symbol {
+    /// Whether it names a table of its own: a unit, a function or a subroutine and a derived type do.
+    pub(crate) fn owns_table(&self) -> bool
+        ensures { result ≡ is_some (table_in self.now) }
+    {
+        match self {
+            Symbol::Program { .. }
+            | Symbol::Module { .. }
+            | Symbol::Function { .. }
+            | Symbol::Struct { .. } => true,
+            Symbol::Variable { .. } | Symbol::Generic { .. } | Symbol::External { .. } => false,
+        }
+    }
+
+    /// The same with another table of its own, where it has one.
+    pub(crate) fn with_table(self, table: TableId) -> Symbol
+        ensures { result ≡ with_table table self }
+    {
+        match self {
+            Symbol::Program {
+                source,
+                deps,
+                table: _,
+                body,
+            } => Symbol::Program {
+                source,
+                deps,
+                table,
+                body,
+            },
+            Symbol::Module {
+                source,
+                deps,
+                table: _,
+            } => Symbol::Module {
+                source,
+                deps,
+                table,
+            },
+            Symbol::Function {
+                access,
+                dummies,
+                result,
+                simple,
+                table: _,
+                body,
+            } => Symbol::Function {
+                access,
+                dummies,
+                result,
+                simple,
+                table,
+                body,
+            },
+            Symbol::Struct { access, table: _ } => Symbol::Struct { access, table },
+            other => other,
+        }
+    }
 }

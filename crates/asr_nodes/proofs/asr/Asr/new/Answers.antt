@@ -3,4 +3,4 @@ use Rattle.asr_nodes.proofs.Begins.{new_sound}
 use Rattle.asr_nodes.proofs.asr.Asr.new.Goals as goal
 
 pub invariant_of-result : goal.invariant_of-result
-invariant_of-result c = new_sound _ _ _ (search rules) (search rules) (search rules)
+invariant_of-result c = new_sound _ _ _ _ (search rules) (search rules) (search rules) (search rules)

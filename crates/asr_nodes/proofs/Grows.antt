@@ -19,7 +19,7 @@ use Rattle.asr_nodes.specs.declared.node.Stmt.{Stmt}
 use Rattle.asr_nodes.proofs.Same.{same}
 use Rattle.asr_nodes.proofs.Walks.{all_weaker, all_each, seen, parts_end, tree_is, tree_kept, more_founded, more_keeps}
 
-some_is : {A : Type 0} (o : Option A) → is_some o ≡ true → (x : A) × (o ≡ Some x)
+pub some_is : {A : Type 0} (o : Option A) → is_some o ≡ true → (x : A) × (o ≡ Some x)
 some_is (Some x) e = (x, refl)
 some_is None e = absurd (true≢false (sym e))
 

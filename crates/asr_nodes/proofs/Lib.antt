@@ -9,5 +9,6 @@ pub mod PrintItems
 pub mod Pushes
 pub mod Replaces
 pub mod Same
+pub mod Splicing
 pub mod Symbols
 pub mod Walks

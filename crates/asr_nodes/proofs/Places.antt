@@ -8,7 +8,7 @@ use Rattle.lf_base.specs.declared.id.ExprId.{ExprId}
 use Rattle.lf_base.specs.declared.id.StmtId.{StmtId}
 use Rattle.lf_base.specs.declared.id.SymId.{SymId}
 use Rattle.symtab_arena.specs.Scopes.{symbol_at}
-use Rattle.asr_nodes.specs.Ids.{expr_id}
+use Rattle.asr_nodes.specs.Ids.{expr_id, stmt_id}
 use Rattle.asr_nodes.specs.Keys.{Key, expr, stmt, Node, Tree, is_other}
 use Rattle.asr_nodes.specs.Nodes.{Nodes, Sound, StandsFor, Replaces, HasExpr, HasStmt, node_at, node_count, tree_at, there, avoid, with_expr_at, with_stmt_at}
 use Rattle.asr_nodes.specs.Parts.{parts, expr_parts, stmt_parts}
@@ -24,8 +24,6 @@ use Rattle.asr_nodes.proofs.Same.{same}
 use Rattle.asr_nodes.proofs.Walks.{all_weaker}
 
 -- the keys of the first expressions, and of the first statements
-abbrev stmt_id : ℕ → StmtId
-stmt_id n = record { 0 = n }
 
 exprs_below : ℕ → List Key
 exprs_below zero = []
@@ -71,22 +69,22 @@ stmt_in (suc n) id l =
       | inr a ↦ inl (let e : id.0 ≡ n = omega arith in ap (λ m. stmt (stmt_id m)) e)
     ]
 
-keys_of : Nodes → List Key
+pub keys_of : Nodes → List Key
 keys_of a = exprs_below (length a.exprs) ++ stmts_below (length a.stmts)
 
-keys_counted : (a : Nodes) → length (keys_of a) ≡ node_count a
+pub keys_counted : (a : Nodes) → length (keys_of a) ≡ node_count a
 unfolding keys_of
 keys_counted a =
     let e = many_exprs (length a.exprs) in
     let s = many_stmts (length a.stmts) in
     omega (arith, length-append (exprs_below (length a.exprs)) (stmts_below (length a.stmts)))
 
-keys_cover : (a : Nodes) (key : Key) (x : Node key) → node_at a key ≡ Some x → In key (keys_of a)
+pub keys_cover : (a : Nodes) (key : Key) (x : Node key) → node_at a key ≡ Some x → In key (keys_of a)
 unfolding keys_of
 keys_cover a (expr id) x e = in_first (expr id) (exprs_below (length a.exprs)) _ (expr_in (length a.exprs) id (slice_get_within a.exprs id.0 x e))
 keys_cover a (stmt id) x e = in_last (stmt id) (exprs_below (length a.exprs)) _ (stmt_in (length a.stmts) id (slice_get_within a.stmts id.0 x e))
 
-is_not : (i at : ℕ) → i ≢ at → not (i == at) ≡ true
+pub is_not : (i at : ℕ) → i ≢ at → not (i == at) ≡ true
 is_not i at n = grind (arith, nat_tests)
 
 differs : (i at : ℕ) → not (i == at) ≡ true → i ≢ at

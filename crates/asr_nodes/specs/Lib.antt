@@ -4,5 +4,6 @@ pub mod Nodes
 pub mod Parts
 pub mod Reading
 pub mod Symbols
+pub mod Splices
 pub mod Units
 pub mod Walks

@@ -10,6 +10,7 @@ ghost use Rattle.symtab_arena.specs.Scopes.{IsLive, what_of, owned_by};
 
 mod build;
 mod edit;
+mod splice;
 
 use crate::node::{Expr, Stmt, Symbol};
 use lf_base::{ExprId, Memory, Name, StmtId, SymId, TableId};

@@ -1,5 +1,6 @@
 //! The nodes of the typed tree: symbols, expressions and statements, which name their parts by number.
 ghost use Rattle.std.specs.Prelude.{◌≡◌, is_some};
+ghost use Rattle.asr_nodes.specs.Splices.{line_of};
 ghost use Rattle.asr_nodes.specs.Symbols.{table_in, with_table};
 
 use crate::ids::ExprIds;
@@ -421,6 +422,37 @@ impl Symbol {
             },
             Symbol::Struct { access, table: _ } => Symbol::Struct { access, table },
             other => other,
+        }
+    }
+}
+
+impl Stmt {
+    /// The line of the statement.
+    pub fn line(&self) -> u32
+        ensures { result ≡ line_of self.now }
+    {
+        match self {
+            Stmt::Assign { line, .. }
+            | Stmt::If { line, .. }
+            | Stmt::Do { line, .. }
+            | Stmt::While { line, .. }
+            | Stmt::Exit { line, .. }
+            | Stmt::Cycle { line, .. }
+            | Stmt::Select { line, .. }
+            | Stmt::Call { line, .. }
+            | Stmt::Print { line, .. }
+            | Stmt::Read { line, .. }
+            | Stmt::Stop { line, .. }
+            | Stmt::Return { line }
+            | Stmt::Block { line, .. }
+            | Stmt::Let { line, .. }
+            | Stmt::Room { line, .. }
+            | Stmt::Count { line, .. }
+            | Stmt::Same { line, .. }
+            | Stmt::Probe { line, .. }
+            | Stmt::Begin { line, .. }
+            | Stmt::Put { line, .. }
+            | Stmt::End { line } => *line,
         }
     }
 }

@@ -10,7 +10,7 @@ use lf_base::{ExprId, StmtId};
 use std::mem;
 
 /// Puts a node in the place of another, and hands the old one back.
-fn put_at<X>(nodes: &mut Vec<X>, place: usize, node: X) -> X
+pub(super) fn put_at<X>(nodes: &mut Vec<X>, place: usize, node: X) -> X
     requires { place < length nodes.old.items }
     ensures old { slice_get nodes.old.items place ≡ Some result }
     ensures new { nodes.new.items ≡ slice_set nodes.old.items place node }

@@ -1,6 +1,7 @@
 pub mod Ids
 pub mod Keys
 pub mod Nodes
+pub mod Noted
 pub mod Parts
 pub mod Reading
 pub mod Symbols

@@ -10,6 +10,7 @@ use Rattle.symtab_arena.specs.Scopes.{Scopes, symbol_at, the_root}
 use Rattle.symtab_arena.specs.declared.table.Symbol.{Symbol as Entry}
 use Rattle.asr_nodes.specs.Walks.{ends, Founded, tree_within}
 use Rattle.asr_nodes.specs.Keys.{Key, expr, stmt, Node, Tree, is_other, exprs, stmts}
+use Rattle.asr_nodes.specs.Noted.{Noted}
 use Rattle.asr_nodes.specs.Parts.{parts, expr_parts, stmt_parts}
 use Rattle.asr_nodes.specs.Symbols.{table_in, is_unit, symbol_parts}
 use Rattle.asr_nodes.specs.Reading.{Path, Reading, reading, node_tree, no_tree, expr_node, stmt_node}
@@ -25,7 +26,7 @@ pub record Nodes : Type 0 where
   pub exprs : List Expr
   pub stmts : List Stmt
   -- the ambiguous names of tables, the last noted last; they are no part of any tree
-  pub noted : List (TableId × List ℕ)
+  pub noted : Noted
 
 module _ (a : Nodes) where
   -- how many nodes there are: no walk that ends has more steps

@@ -8,6 +8,7 @@ ghost use Rattle.asr_nodes.specs.Reading.{Path, expr_node, stmt_node};
 ghost use Rattle.asr_nodes.specs.Symbols.{symbol_parts, table_in};
 ghost use Rattle.symtab_arena.specs.Scopes.{IsLive, what_of, owned_by};
 
+mod ambiguous;
 mod build;
 mod edit;
 mod splice;

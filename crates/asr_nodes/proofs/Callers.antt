@@ -1,0 +1,55 @@
+-- For callers: what is there stays there, and which keys avoid a place, as the edits ask. `Asr::sound` gives `Sound`.
+use Rattle.std.proofs.Common.{◌≡◌, ℕ, zero, suc, Bool, true, List, [], ◌∷◌, ◌++◌, Option, Some, None, is_some, refl, sym, ap, subst, ◌∙◌, arith, true≢false}
+use Rattle.std.specs.List.{list_all}
+use Rattle.std.proofs.lemmas.Bool.{and_parts, and_from}
+use Rattle.asr_nodes.specs.Keys.{Key, Node, is_other}
+use Rattle.asr_nodes.specs.Nodes.{Nodes, Sound, Extends, node_at, node_count, there, avoid}
+use Rattle.asr_nodes.specs.Parts.{parts}
+use Rattle.asr_nodes.specs.Walks.{passes, ends}
+use Rattle.asr_nodes.proofs.Avoids as walks
+use Rattle.asr_nodes.proofs.Counts.{short}
+use Rattle.asr_nodes.proofs.Grows.{some_is}
+use Rattle.asr_nodes.proofs.Places.{keys_of, keys_counted, keys_cover, this_or_other}
+use Rattle.asr_nodes.proofs.Walks.{all_weaker, seen, ends_kept}
+
+-- a walk that ends within any number of steps ends within the number of nodes
+steps : (a : Nodes) (free : Key → Bool) (n : ℕ) (key : Key) → ends parts free (node_at a) n key ≡ true → ends parts free (node_at a) (node_count a) key ≡ true
+steps a free n key e = subst (λ i. ends parts free (node_at a) i key ≡ true) (keys_counted a) (short parts free (node_at a) (keys_of a) (keys_cover a) n key e)
+
+-- After `build_expr` and `build_stmt`.
+module _ (old new : Nodes) (more : Extends old new) where
+  -- what was there is there,
+  pub there_still : (keys : List Key) → there old keys ≡ true → there new keys ≡ true
+  there_still keys =
+      all_weaker (λ key. is_some (node_at old key)) (λ key. is_some (node_at new key))
+          (λ key e. let x = some_is (node_at old key) e in ap is_some (more.nodes key x.0 x.1)) keys
+
+  -- and what avoided a place avoids it.
+  pub avoid_still : (at : Key) (keys : List Key) → avoid old at keys ≡ true → avoid new at keys ≡ true
+  avoid_still at keys =
+      all_weaker (ends parts (is_other at) (node_at old) (node_count old)) (ends parts (is_other at) (node_at new) (node_count new))
+          (λ key e.
+              steps new (is_other at) (node_count old) key
+                  (ends_kept parts (is_other at) (is_other at) (node_at old) (node_at new) (λ k y _ d. more.nodes k y d) (λ _ t. t) (node_count old) (node_count old) key (omega arith) e))
+          keys
+
+module _ (a : Nodes) (at : Key) where
+  -- The parts of the node that stands at a place avoid it,
+  pub own_parts_avoid : Sound a → (x : Node at) → node_at a at ≡ Some x → avoid a at (parts at x) ≡ true
+  own_parts_avoid h x e = walks.own_parts_avoid parts (node_at a) at (is_other at) (this_or_other at) (node_count a) h.founded x e
+
+  -- a node that stands elsewhere avoids it where its parts do,
+  pub node_avoids : (key : Key) (x : Node key) → node_at a key ≡ Some x → is_other at key ≡ true → avoid a at (parts key x) ≡ true → avoid a at (key ∷ []) ≡ true
+  node_avoids key x e t h =
+      and_from _ _
+          (steps a (is_other at) (suc (node_count a)) key
+              (and_from _ _ t (subst (λ o. passes (λ y. list_all (ends parts (is_other at) (node_at a) (node_count a)) (parts key y)) o ≡ true) (sym e) h)))
+          refl
+
+  -- and what avoids a place is there.
+  pub avoids_there : (keys : List Key) → avoid a at keys ≡ true → there a keys ≡ true
+  avoids_there keys = all_weaker (ends parts (is_other at) (node_at a) (node_count a)) (λ key. is_some (node_at a key)) (by (node_count a)) keys
+    where
+      by : (n : ℕ) (key : Key) → ends parts (is_other at) (node_at a) n key ≡ true → is_some (node_at a key) ≡ true
+      by zero key e = absurd (true≢false (sym e))
+      by (suc n) key e = let z = seen (λ x. list_all (ends parts (is_other at) (node_at a) n) (parts key x)) (node_at a key) (and_parts _ _ e).1 in ap is_some z.1

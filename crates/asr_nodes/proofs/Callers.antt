@@ -2,6 +2,8 @@
 use Rattle.std.proofs.Common.{◌≡◌, ℕ, zero, suc, Bool, true, List, [], ◌∷◌, ◌++◌, Option, Some, None, is_some, refl, sym, ap, subst, ◌∙◌, arith, true≢false}
 use Rattle.std.specs.List.{list_all}
 use Rattle.std.proofs.lemmas.Bool.{and_parts, and_from}
+use Rattle.symtab_arena.specs.Scopes.{Scopes}
+use Rattle.asr_nodes.specs.declared.node.Symbol.{Symbol}
 use Rattle.asr_nodes.specs.Keys.{Key, Node, is_other}
 use Rattle.asr_nodes.specs.Nodes.{Nodes, Sound, Extends, node_at, node_count, there, avoid}
 use Rattle.asr_nodes.specs.Parts.{parts}
@@ -15,6 +17,10 @@ use Rattle.asr_nodes.proofs.Walks.{all_weaker, seen, ends_kept}
 -- a walk that ends within any number of steps ends within the number of nodes
 steps : (a : Nodes) (free : Key → Bool) (n : ℕ) (key : Key) → ends parts free (node_at a) n key ≡ true → ends parts free (node_at a) (node_count a) key ≡ true
 steps a free n key e = subst (λ i. ends parts free (node_at a) i key ≡ true) (keys_counted a) (short parts free (node_at a) (keys_of a) (keys_cover a) n key e)
+
+-- After `build_symbol` and `replace_symbol`, which say that other fields are as they were.
+pub scopes_extend : (a : Nodes) (scopes : Scopes Symbol) → Extends a (record a { scopes = scopes })
+scopes_extend a scopes = record { nodes = λ key x e. e; trees = λ key x e path. refl }
 
 -- After `build_expr` and `build_stmt`.
 module _ (old new : Nodes) (more : Extends old new) where

@@ -2,6 +2,7 @@ pub mod Alike
 pub mod ArrayItems
 pub mod Avoids
 pub mod Begins
+pub mod Callers
 pub mod Counts
 pub mod Grows
 pub mod Places

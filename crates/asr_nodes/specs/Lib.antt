@@ -6,5 +6,6 @@ pub mod Parts
 pub mod Reading
 pub mod Symbols
 pub mod Splices
+pub mod Tags
 pub mod Units
 pub mod Walks

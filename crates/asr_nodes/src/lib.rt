@@ -2,6 +2,7 @@
 #![tactic(auto)]
 
 mod asr;
+pub mod code;
 mod ids;
 mod node;
 mod tree;

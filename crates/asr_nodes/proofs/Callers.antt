@@ -28,16 +28,16 @@ module _ (old new : Nodes) (more : Extends old new) where
   pub there_still : (keys : List Key) → there old keys ≡ true → there new keys ≡ true
   there_still keys =
       all_weaker (λ key. is_some (node_at old key)) (λ key. is_some (node_at new key))
-          (λ key e. let x = some_is (node_at old key) e in ap is_some (more.nodes key x.0 x.1)) keys
+      (λ key e. let x = some_is (node_at old key) e in ap is_some (more.nodes key x.0 x.1)) keys
 
   -- and what avoided a place avoids it.
   pub avoid_still : (at : Key) (keys : List Key) → avoid old at keys ≡ true → avoid new at keys ≡ true
   avoid_still at keys =
       all_weaker (ends parts (is_other at) (node_at old) (node_count old)) (ends parts (is_other at) (node_at new) (node_count new))
-          (λ key e.
-              steps new (is_other at) (node_count old) key
-                  (ends_kept parts (is_other at) (is_other at) (node_at old) (node_at new) (λ k y _ d. more.nodes k y d) (λ _ t. t) (node_count old) (node_count old) key (omega arith) e))
-          keys
+      (λ key e.
+      steps new (is_other at) (node_count old) key
+      (ends_kept parts (is_other at) (is_other at) (node_at old) (node_at new) (λ k y _ d. more.nodes k y d) (λ _ t. t) (node_count old) (node_count old) key (omega arith) e))
+      keys
 
 module _ (a : Nodes) (at : Key) where
   -- The parts of the node that stands at a place avoid it,
@@ -48,9 +48,9 @@ module _ (a : Nodes) (at : Key) where
   pub node_avoids : (key : Key) (x : Node key) → node_at a key ≡ Some x → is_other at key ≡ true → avoid a at (parts key x) ≡ true → avoid a at (key ∷ []) ≡ true
   node_avoids key x e t h =
       and_from _ _
-          (steps a (is_other at) (suc (node_count a)) key
-              (and_from _ _ t (subst (λ o. passes (λ y. list_all (ends parts (is_other at) (node_at a) (node_count a)) (parts key y)) o ≡ true) (sym e) h)))
-          refl
+      (steps a (is_other at) (suc (node_count a)) key
+      (and_from _ _ t (subst (λ o. passes (λ y. list_all (ends parts (is_other at) (node_at a) (node_count a)) (parts key y)) o ≡ true) (sym e) h)))
+      refl
 
   -- and what avoids a place is there.
   pub avoids_there : (keys : List Key) → avoid a at keys ≡ true → there a keys ≡ true

@@ -46,75 +46,136 @@ pub const FORMAT_INTEGER: u8 = 2;
 
 // The tags of symbols. A unit has none.
 pub const SYMBOL_FUNCTION: u8 = 1;
+
 pub const SYMBOL_VARIABLE: u8 = 2;
+
 pub const SYMBOL_STRUCT: u8 = 3;
+
 pub const SYMBOL_GENERIC: u8 = 4;
+
 pub const SYMBOL_EXTERNAL: u8 = 5;
 
 // The tags of element types, lengths and dimensions.
 pub const ELEM_INTEGER: u8 = 1;
+
 pub const ELEM_LOGICAL: u8 = 2;
+
 pub const ELEM_CHARACTER: u8 = 3;
+
 pub const ELEM_DERIVED: u8 = 4;
+
 pub const LEN_FIXED: u8 = 1;
+
 pub const LEN_ASSUMED: u8 = 2;
+
 pub const DIM_FIXED: u8 = 1;
+
 pub const DIM_ASSUMED: u8 = 2;
 
 // The tags of expressions, of the parts of sections and of the items of constructors.
 pub const EXPR_INT_CONST: u8 = 1;
+
 pub const EXPR_LOG_CONST: u8 = 2;
+
 pub const EXPR_CHAR_CONST: u8 = 3;
+
 pub const EXPR_VAR: u8 = 4;
+
 pub const EXPR_ITEM: u8 = 5;
+
 pub const EXPR_SECTION: u8 = 6;
+
 pub const EXPR_FIELD: u8 = 7;
+
 pub const EXPR_SUBSTRING: u8 = 8;
+
 pub const EXPR_UNARY: u8 = 9;
+
 pub const EXPR_BINARY: u8 = 10;
+
 pub const EXPR_CONVERT: u8 = 11;
+
 pub const EXPR_PAREN: u8 = 12;
+
 pub const EXPR_INVOKE: u8 = 13;
+
 pub const EXPR_INTRINSIC: u8 = 14;
+
 pub const EXPR_CONSTRUCT: u8 = 15;
+
 pub const EXPR_ARRAY: u8 = 16;
+
 pub const EXPR_TEMP: u8 = 17;
+
 pub const EXPR_SEQ: u8 = 18;
+
 pub const EXPR_TEMP_AT: u8 = 19;
+
 pub const EXPR_EXTENT: u8 = 20;
+
 pub const EXPR_SEC_LEN: u8 = 21;
+
 pub const EXPR_ARR: u8 = 22;
+
 pub const EXPR_AT: u8 = 23;
+
 pub const PART_AT: u8 = 1;
+
 pub const PART_TRIPLE: u8 = 2;
+
 pub const ITEM_VALUE: u8 = 1;
+
 pub const ITEM_LOOP: u8 = 2;
 
 // The tags of statements and of the values of cases. Items of output lists have those of constructors.
 pub const STMT_ASSIGN: u8 = 1;
+
 pub const STMT_IF: u8 = 2;
+
 pub const STMT_DO: u8 = 3;
+
 pub const STMT_WHILE: u8 = 4;
+
 pub const STMT_EXIT: u8 = 5;
+
 pub const STMT_CYCLE: u8 = 6;
+
 pub const STMT_SELECT: u8 = 7;
+
 pub const STMT_CALL: u8 = 8;
+
 pub const STMT_PRINT: u8 = 9;
+
 pub const STMT_READ: u8 = 10;
+
 pub const STMT_STOP: u8 = 11;
+
 pub const STMT_RETURN: u8 = 12;
+
 pub const STMT_BLOCK: u8 = 13;
+
 pub const STMT_LET: u8 = 14;
+
 pub const STMT_ROOM: u8 = 15;
+
 pub const STMT_COUNT: u8 = 16;
+
 pub const STMT_SAME: u8 = 17;
+
 pub const STMT_PROBE: u8 = 18;
+
 pub const STMT_BEGIN: u8 = 19;
+
 pub const STMT_PUT: u8 = 20;
+
 pub const STMT_END: u8 = 21;
+
 pub const RANGE_ONE: u8 = 1;
+
 pub const RANGE_FROM: u8 = 2;
+
 pub const RANGE_TO: u8 = 3;
+
 pub const RANGE_BETWEEN: u8 = 4;
 
 impl Expr {

@@ -4,6 +4,7 @@ pub mod Avoids
 pub mod Begins
 pub mod Callers
 pub mod Counts
+pub mod ExampleTexts
 pub mod Grows
 pub mod Places
 pub mod PrintItems
@@ -12,4 +13,6 @@ pub mod Replaces
 pub mod Same
 pub mod Splicing
 pub mod Symbols
+pub mod Texts
+pub mod TreeFolds
 pub mod Walks

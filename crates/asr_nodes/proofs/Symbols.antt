@@ -1,14 +1,14 @@
 -- Other symbols over the same expressions and statements.
-use Rattle.std.proofs.Common.{◌≡◌, ◌≢◌, ℕ, ◌+◌, ◌<◌, Bool, true, false, if◌then◌else◌, ◌==◌, List, [], ◌∷◌, length, Option, Some, None, is_some, IfSome, Result, Ok, Err, refl, sym, ap, subst, ◌∙◌, arith, true≢false, ◌⊎◌, inl, inr}
+use Rattle.std.proofs.Common.{◌≡◌, ◌≢◌, ℕ, zero, suc, ◌+◌, ◌<◌, Bool, true, false, if◌then◌else◌, ◌==◌, List, [], ◌∷◌, ◌++◌, length, Option, Some, None, is_some, IfSome, Result, Ok, Err, refl, sym, ap, subst, ◌∙◌, arith, true≢false, ◌⊎◌, inl, inr}
 use Rattle.std.proofs.lemmas.Bool.Decides.{eqb_tells}
-use Rattle.std.specs.Option.{option_map}
+use Rattle.std.specs.Option.{option_map, option_map_or}
 use Rattle.lf_base.specs.declared.id.SymId.{SymId}
 use Rattle.lf_base.specs.declared.id.TableId.{TableId}
 use Rattle.symtab_arena.specs.Answers.{MayDeclare, Declares}
 use Rattle.symtab_arena.specs.Changes.{declared_in, owner_declared_in, replaced_in, standing_for}
 use Rattle.symtab_arena.specs.Links.{Linked}
-use Rattle.symtab_arena.specs.Scopes.{Scopes, HasTable, IsLive, symbol_id, symbol_at, names_in, next_symbol, next_table, what_of}
-use Rattle.symtab_arena.specs.Paths.{path_of}
+use Rattle.symtab_arena.specs.Scopes.{Scopes, HasTable, IsLive, symbol_id, symbol_at, names_in, next_symbol, next_table, owner_of, what_of}
+use Rattle.symtab_arena.specs.Paths.{path_of, path_within}
 use Rattle.symtab_arena.specs.declared.fault.ArenaFault.{ArenaFault}
 use Rattle.symtab_arena.specs.declared.table.Symbol.{Symbol as Entry}
 use Rattle.symtab_arena.proofs.Callers.{declared_new, declared_other, owner_declared_new, owner_declared_other, replaced_new, replaced_other, declared_path, owner_declared_path}
@@ -167,3 +167,36 @@ module _ (a : Scopes Symbol) (t : TableId) (name : List ℕ) (x : Symbol) (links
   pub paths_kept : (sc : Scopes Symbol) (r : Result SymId ArenaFault) → Declares a t name (next_symbol a) (with_symbol a t name x) sc r → KeepsPaths a sc
   paths_kept sc (Ok id) d = λ s y live. ap (λ z. path_of z s) d.2 ∙ grown_path (is_some (table_in x)) refl d.0 s y live
   paths_kept sc (Err fault) d = λ s y live. ap (λ z. path_of z s) d.1
+
+-- a symbol keeps its path where what stands for one is replaced
+module _ (a : Scopes Symbol) (id : SymId) (x : Symbol) (y : Entry Symbol) (was : symbol_at a id ≡ Some y) where
+  abbrev b : Scopes Symbol
+  b = replaced_in a id x
+
+  at_entry : (f : Entry Symbol → List (List ℕ)) → ((z : Entry Symbol) → f (standing_for x z) ≡ f z) → (s : SymId) → option_map_or f (symbol_at b s) [] ≡ option_map_or f (symbol_at a s) []
+  at_entry f h s =
+      elim (same_or s id) as (λ _. option_map_or f (symbol_at b s) [] ≡ option_map_or f (symbol_at a s) []) [
+          inl p ↦
+            ap (λ u. option_map_or f (symbol_at b u) []) p
+            ∙ ap (λ o. option_map_or f o []) (replaced_new a id y x was)
+            ∙ h y
+            ∙ sym (ap (λ o. option_map_or f o []) was)
+            ∙ sym (ap (λ u. option_map_or f (symbol_at a u) []) p)
+        | inr d ↦ ap (λ o. option_map_or f o []) (replaced_other a id y x was s d)
+        ]
+
+  replaced_path : (n : ℕ) (s : SymId) → path_within b n s ≡ path_within a n s
+  replaced_path zero s = refl
+  replaced_path (suc n) s =
+      at_entry (λ z. option_map_or (path_within b n) (owner_of a z.table) [] ++ z.name ∷ []) (λ z. refl) s
+      ∙ (λ k. option_map_or (λ z. option_map_or (λ u. replaced_path n u k) (owner_of a z.table) [] ++ z.name ∷ []) (symbol_at a s) [])
+
+  replaced_paths : KeepsPaths a b
+  replaced_paths s it live = replaced_path (length a.tables) s
+
+pub paths_replaced : (a sc : Scopes Symbol) (id : SymId) (x : Symbol) → IsLive a id → sc ≡ replaced_in a id x → KeepsPaths a sc
+paths_replaced a sc id x live e = subst (KeepsPaths a) (sym e) (by (symbol_at a id) refl live)
+  where
+    by : (o : Option (Entry Symbol)) → symbol_at a id ≡ o → is_some o ≡ true → KeepsPaths a (replaced_in a id x)
+    by None was l = absurd (true≢false (sym l))
+    by (Some y) was l = replaced_paths a id x y was

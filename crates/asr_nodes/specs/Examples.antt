@@ -3,6 +3,7 @@ use Rattle.std.specs.Prelude.{ℕ, pos, negsuc, List, [], ◌∷◌, codes, Some
 use Rattle.type_rules.specs.declared.constant.Const.TheVariants as constant
 use Rattle.type_rules.specs.declared.ty.Dim.TheVariants as dim
 use Rattle.asr_nodes.specs.declared.node.CaseRange.TheVariants.{Between}
+use Rattle.asr_nodes.specs.declared.tree.CaseTree.{CaseTree}
 use Rattle.asr_nodes.specs.declared.tree.ElemTree.TheVariants.{Integer}
 use Rattle.asr_nodes.specs.declared.tree.ExprTree.{ExprTree}
 use Rattle.asr_nodes.specs.declared.tree.ExprTree.TheVariants.{IntConst, Var, Section, Binary}
@@ -38,5 +39,8 @@ abbrev pub home : UnitTree
 home = unit.Module (codes "m") (codes "m.f90") (codes "n" ∷ []) (symbol.Function (codes "s") 0 [] None 0 (variable ∷ []) (Assign 5 section (literal 0) ∷ []) ∷ [])
 
 -- select case (x); case (1:2); return; end select
+abbrev pub block : CaseTree
+block = record { ranges = Between (constant.IntConst 4 (pos 1)) (constant.IntConst 4 (pos 2)) ∷ []; body = Return 4 ∷ [] }
+
 abbrev pub selection : StmtTree
-selection = Select 3 x (record { ranges = Between (constant.IntConst 4 (pos 1)) (constant.IntConst 4 (pos 2)) ∷ []; body = Return 4 ∷ [] } ∷ []) []
+selection = Select 3 x (block ∷ []) []

@@ -137,8 +137,20 @@ stmt_layer (StmtTree-F.End line) = node (codes "End") (decimal line ∷ [])
 abbrev pub expr_text : ExprTree → Text
 expr_text = fold-ExprTree Text Text Text Text Text Text array_item_layer expr_layer print_item_layer section_part_layer stmt_layer case_layer
 
+abbrev pub section_part_text : SectionPartTree → Text
+section_part_text = fold-SectionPartTree Text Text Text Text Text Text array_item_layer expr_layer print_item_layer section_part_layer stmt_layer case_layer
+
+abbrev pub array_item_text : ArrayItemTree → Text
+array_item_text = fold-ArrayItemTree Text Text Text Text Text Text array_item_layer expr_layer print_item_layer section_part_layer stmt_layer case_layer
+
 abbrev pub stmt_text : StmtTree → Text
 stmt_text = fold-StmtTree Text Text Text Text Text Text array_item_layer expr_layer print_item_layer section_part_layer stmt_layer case_layer
+
+abbrev pub case_text : CaseTree → Text
+case_text = fold-CaseTree Text Text Text Text Text Text array_item_layer expr_layer print_item_layer section_part_layer stmt_layer case_layer
+
+abbrev pub print_item_text : PrintItemTree → Text
+print_item_text = fold-PrintItemTree Text Text Text Text Text Text array_item_layer expr_layer print_item_layer section_part_layer stmt_layer case_layer
 
 -- a symbol, with the texts of the symbols in the scope of its own
 abbrev pub symbol_layer : SymbolTree-F Text → Text

@@ -4,6 +4,7 @@
 mod asr;
 pub mod code;
 mod ids;
+pub mod law;
 mod node;
 mod tree;
 

@@ -98,13 +98,14 @@ impl Asr {
 
     /// Puts another node in the place of what a live symbol stands for, and hands the old one back. Its parts are
     /// there, and it is of the same kind and names the same table, or it is a generic name in place of an entity of
-    /// a module. It takes no memory.
+    /// a module. All trees stay, and every live symbol keeps its path. It takes no memory.
     pub fn replace_symbol(&mut self, id: SymId, with: Symbol) -> Symbol
         requires live { IsLive self.old.scopes id }
         requires like { IfSome (what_of self.old.scopes id) (λ old. IsLike old with) }
         requires parts { there self.old (symbol_parts with) ≡ true }
         ensures old { what_of self.old.scopes id ≡ Some result }
         ensures new { self.new ≡ record self.old { scopes = replaced_in self.old.scopes id with } }
+        ensures paths { KeepsPaths self.old.scopes self.new.scopes }
     {
         self.arena.replace_what(id, with)
     }

@@ -24,13 +24,13 @@ unfolding joined digits
 item_text =
     print_item_text-Value (Binary 0 (literal 2) (Binary 2 (literal 3) (literal 4)))
     ∙ ap (λ t. node (codes "Value") (t ∷ []))
-        (expr_text-Binary 0 (literal 2) (Binary 2 (literal 3) (literal 4)) ∙ (λ k. node (codes "Binary") (decimal 0 ∷ literal_text 2 k ∷ product_text k ∷ [])))
+    (expr_text-Binary 0 (literal 2) (Binary 2 (literal 3) (literal 4)) ∙ (λ k. node (codes "Binary") (decimal 0 ∷ literal_text 2 k ∷ product_text k ∷ [])))
 
 pub program_text : unit_text program ≡ codes "(Program p \"p1.f90\" [] [\n] [(Print 2 0 0 [(Value (Binary 0 (IntConst 4 2) (Binary 2 (IntConst 4 3) (IntConst 4 4))))])])\n"
 unfolding joined digits
 program_text =
     ap (λ t. unit_lines (codes "Program") (codes "p") (codes "p1.f90") [] [] (joined (codes "] " ∷ listed (t ∷ []) ∷ [])))
-        (stmt_text-Print 2 0 0 (Value (Binary 0 (literal 2) (Binary 2 (literal 3) (literal 4))) ∷ []) ∙ ap (λ t. node (codes "Print") (decimal 2 ∷ decimal 0 ∷ decimal 0 ∷ listed (t ∷ []) ∷ [])) item_text)
+    (stmt_text-Print 2 0 0 (Value (Binary 0 (literal 2) (Binary 2 (literal 3) (literal 4))) ∷ []) ∙ ap (λ t. node (codes "Print") (decimal 2 ∷ decimal 0 ∷ decimal 0 ∷ listed (t ∷ []) ∷ [])) item_text)
 
 x_text : expr_text x ≡ codes "(Var s.x)"
 unfolding joined digits
@@ -58,7 +58,7 @@ pub home_text : unit_text home ≡ codes "(Module m \"m.f90\" [n] [\n(Function s
 unfolding joined digits procedure_text
 home_text =
     ap (λ t. joined (codes "(" ∷ codes "Module" ∷ codes " " ∷ codes "m" ∷ codes " " ∷ codes "\"m.f90\"" ∷ codes " " ∷ codes "[n]" ∷ codes " [\n" ∷ joined ((t ++ codes "\n") ∷ []) ∷ codes "]" ∷ codes ")\n" ∷ []))
-        (symbol_text-Function (codes "s") 0 [] None 0 (variable ∷ []) (Assign 5 section (literal 0) ∷ []) ∙ (λ k. procedure_text (variable_text k ∷ []) (assign_text k ∷ [])))
+    (symbol_text-Function (codes "s") 0 [] None 0 (variable ∷ []) (Assign 5 section (literal 0) ∷ []) ∙ (λ k. procedure_text (variable_text k ∷ []) (assign_text k ∷ [])))
 
 pub selection_text : stmt_text selection ≡ codes "(Select 3 (Var s.x) [(Case [(Between (IntConst 4 1) (IntConst 4 2))] [(Return 4)])] [])"
 unfolding joined digits

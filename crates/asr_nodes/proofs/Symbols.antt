@@ -176,14 +176,14 @@ module _ (a : Scopes Symbol) (id : SymId) (x : Symbol) (y : Entry Symbol) (was :
   at_entry : (f : Entry Symbol → List (List ℕ)) → ((z : Entry Symbol) → f (standing_for x z) ≡ f z) → (s : SymId) → option_map_or f (symbol_at b s) [] ≡ option_map_or f (symbol_at a s) []
   at_entry f h s =
       elim (same_or s id) as (λ _. option_map_or f (symbol_at b s) [] ≡ option_map_or f (symbol_at a s) []) [
-          inl p ↦
+        | inl p ↦
             ap (λ u. option_map_or f (symbol_at b u) []) p
             ∙ ap (λ o. option_map_or f o []) (replaced_new a id y x was)
             ∙ h y
             ∙ sym (ap (λ o. option_map_or f o []) was)
             ∙ sym (ap (λ u. option_map_or f (symbol_at a u) []) p)
         | inr d ↦ ap (λ o. option_map_or f o []) (replaced_other a id y x was s d)
-        ]
+      ]
 
   replaced_path : (n : ℕ) (s : SymId) → path_within b n s ≡ path_within a n s
   replaced_path zero s = refl

@@ -1,5 +1,5 @@
 -- The nodes of a program by number, and the trees that they stand for.
-use Rattle.std.specs.Prelude.{◌≡◌, ℕ, ◌+◌, ◌<◌, ◌≤◌, Bool, true, ◌==◌, List, [], ◌∷◌, ◌++◌, length, slice_get, slice_set, Option, Some, None, Result, Ok, Err, is_some}
+use Rattle.std.specs.Prelude.{◌≡◌, ℕ, ◌+◌, ◌<◌, ◌≤◌, Bool, true, List, [], ◌∷◌, ◌++◌, length, slice_get, slice_set, Option, Some, None, Result, Ok, Err, is_some}
 use Rattle.std.specs.List.{list_all}
 use Rattle.lf_base.specs.declared.id.ExprId.{ExprId}
 use Rattle.lf_base.specs.declared.id.StmtId.{StmtId}
@@ -12,7 +12,7 @@ use Rattle.asr_nodes.specs.Walks.{ends, Founded, tree_within}
 use Rattle.asr_nodes.specs.Keys.{Key, expr, stmt, Node, Tree, is_other, exprs, stmts}
 use Rattle.asr_nodes.specs.Noted.{Noted}
 use Rattle.asr_nodes.specs.Parts.{parts, expr_parts, stmt_parts}
-use Rattle.asr_nodes.specs.Symbols.{table_in, is_unit, symbol_parts}
+use Rattle.asr_nodes.specs.Symbols.{table_in, is_root, is_unit, symbol_parts}
 use Rattle.asr_nodes.specs.Reading.{Path, Reading, reading, node_tree, no_tree, expr_node, stmt_node}
 use Rattle.asr_nodes.specs.declared.node.Symbol.{Symbol}
 use Rattle.asr_nodes.specs.declared.node.Expr.{Expr}
@@ -71,7 +71,7 @@ module _ (a : Nodes) where
   pub record Sound : Type 0 where
     pub founded : Founded parts node_at node_count
     pub owned : (id : SymId) (it : Entry Symbol) → symbol_at a.scopes id ≡ Some it → it.owned ≡ table_in it.what
-    pub units : (id : SymId) (it : Entry Symbol) → symbol_at a.scopes id ≡ Some it → is_unit it.what ≡ (it.table.0 == 0)
+    pub units : (id : SymId) (it : Entry Symbol) → symbol_at a.scopes id ≡ Some it → is_unit it.what ≡ is_root it.table
     pub named : (id : SymId) (it : Entry Symbol) → symbol_at a.scopes id ≡ Some it → there (symbol_parts it.what) ≡ true
 
 -- All nodes that stood stand, with the trees that they had.

@@ -1,5 +1,5 @@
 -- What a symbol's node names.
-use Rattle.std.specs.Prelude.{◌≡◌, ℕ, Bool, true, false, if◌then◌else◌, List, [], length, Option, Some, None, is_some}
+use Rattle.std.specs.Prelude.{◌≡◌, ℕ, Bool, true, false, ◌==◌, if◌then◌else◌, List, [], length, Option, Some, None, is_some}
 use Rattle.lf_base.specs.declared.id.SymId.{SymId}
 use Rattle.lf_base.specs.declared.id.TableId.{TableId}
 use Rattle.symtab_arena.specs.Changes.{declared_in, owner_declared_in}
@@ -39,6 +39,10 @@ symbol_parts (Variable access ty storage intent init) = exprs init
 symbol_parts (Struct access table) = []
 symbol_parts (Generic access specifics) = []
 symbol_parts (External access home original) = []
+
+-- whether a table is the root
+abbrev pub is_root : TableId → Bool
+is_root t = t.0 == 0
 
 -- whether it is a main program or a module
 abbrev pub is_unit : Symbol → Bool

@@ -6,7 +6,7 @@ ghost use Rattle.asr_nodes.specs.Nodes.{Sound, Extends, BuildsExpr, BuildsStmt, 
 ghost use Rattle.asr_nodes.specs.Parts.{expr_parts, stmt_parts};
 ghost use Rattle.asr_nodes.specs.Reading.{Path, expr_node, stmt_node};
 ghost use Rattle.asr_nodes.specs.Symbols.{symbol_parts, table_in};
-ghost use Rattle.symtab_arena.specs.Scopes.{IsLive, what_of, owned_by};
+ghost use Rattle.symtab_arena.specs.Scopes.{IsLive, the_root, what_of, owned_by};
 
 mod ambiguous;
 mod build;
@@ -48,17 +48,33 @@ impl Model for Asr {
 }
 
 impl Asr {
-    /// No nodes, and the root table with no symbol. It fails only for want of memory.
-    pub fn new(alloc: Global) -> Result<Asr, Memory>
-        ensures { IfOk result (λ a. a ≡ empty) }
+    fn over(alloc: Global, arena: Arena<Symbol>) -> Asr
+        requires { arena ≡ the_root }
+        ensures { result ≡ empty }
     {
-        Ok(Asr {
+        Asr {
             alloc,
-            arena: Arena::new(alloc)?,
+            arena,
             exprs: Vec::new(alloc),
             stmts: Vec::new(alloc),
             noted: Vec::new(alloc),
-        })
+        }
+    }
+
+    /// No nodes, and the root table with no symbol. It fails only for want of memory. Names are hashed with a key
+    /// that everybody knows: where names may be chosen to collide, take `keyed`.
+    pub fn new(alloc: Global) -> Result<Asr, Memory>
+        ensures { IfOk result (λ a. a ≡ empty) }
+    {
+        Ok(Asr::over(alloc, Arena::new(alloc)?))
+    }
+
+    /// The same, as `new`, whose names are hashed with this key, such as a digest of the whole source. No answer and
+    /// no order depends on it, only the time that look-ups take.
+    pub fn keyed(alloc: Global, key: [u64; 2]) -> Result<Asr, Memory>
+        ensures { IfOk result (λ a. a ≡ empty) }
+    {
+        Ok(Asr::over(alloc, Arena::keyed(alloc, key)?))
     }
 
     /// What holds of every tree: each walk ends, and tables are owned as they are named. It does nothing when it

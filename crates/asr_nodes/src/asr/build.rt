@@ -1,9 +1,9 @@
 //! Building: each call adds one node whose parts are there.
-ghost use Rattle.std.specs.Prelude.{◌≡◌, ◌==◌, true, false, [], ◌∷◌, ◌++◌, Some, is_some, IfSome, OnOk, OnErr};
+ghost use Rattle.std.specs.Prelude.{◌≡◌, true, false, [], ◌∷◌, ◌++◌, Some, is_some, IfSome, OnOk, OnErr};
 ghost use Rattle.asr_nodes.specs.Keys.{expr, stmt};
 ghost use Rattle.asr_nodes.specs.Nodes.{Extends, BuildsExpr, BuildsStmt, ExprStandsFor, StmtStandsFor, there};
 ghost use Rattle.asr_nodes.specs.Parts.{expr_parts, stmt_parts};
-ghost use Rattle.asr_nodes.specs.Symbols.{IsLike, KeepsPaths, is_unit, symbol_parts, table_in, with_symbol};
+ghost use Rattle.asr_nodes.specs.Symbols.{IsLike, KeepsPaths, is_root, is_unit, symbol_parts, table_in, with_symbol};
 ghost use Rattle.symtab_arena.specs.Answers.{Declares};
 ghost use Rattle.symtab_arena.specs.Changes.{replaced_in};
 ghost use Rattle.symtab_arena.specs.Scopes.{HasTable, IsLive, next_symbol, what_of};
@@ -32,7 +32,7 @@ impl Asr {
         symbol: Symbol,
     ) -> Result<SymId, ArenaFault>
         requires there { HasTable self.old.scopes table }
-        requires root { is_unit symbol ≡ (table.0 == 0) }
+        requires root { is_unit symbol ≡ is_root table }
         requires parts { there self.old (symbol_parts symbol) ≡ true }
         requires plain { is_some (table_in symbol) ≡ false }
         ensures declares { Declares self.old.scopes table name.now
@@ -51,7 +51,7 @@ impl Asr {
         symbol: Symbol,
     ) -> Result<SymId, ArenaFault>
         requires there { HasTable self.old.scopes table }
-        requires root { is_unit symbol ≡ (table.0 == 0) }
+        requires root { is_unit symbol ≡ is_root table }
         requires parts { there self.old (symbol_parts symbol) ≡ true }
         requires owner { is_some (table_in symbol) ≡ true }
         ensures declares { Declares self.old.scopes table name.now
@@ -80,7 +80,7 @@ impl Asr {
         symbol: Symbol,
     ) -> Result<SymId, ArenaFault>
         requires there { HasTable self.old.scopes table }
-        requires root { is_unit symbol ≡ (table.0 == 0) }
+        requires root { is_unit symbol ≡ is_root table }
         requires parts { there self.old (symbol_parts symbol) ≡ true }
         ensures declares { Declares self.old.scopes table name.now
             (next_symbol self.old.scopes) (with_symbol self.old.scopes table name.now symbol)

@@ -10,4 +10,4 @@ invariant_of-self c = after_replacing c.args.self.now _ c.self.view_is c.self.in
 pub returns-clause-paths : goal.returns-clause-paths
 returns-clause-paths c =
     paths_replaced c.args.self.now.scopes _ c.args.id c.args.with c.requires.live
-        (c.replace_what.ensures.new ∙ ap (λ (o : Nodes). replaced_in o.scopes c.args.id c.args.with) c.self.view_is)
+    (c.replace_what.ensures.new ∙ ap (λ (o : Nodes). replaced_in o.scopes c.args.id c.args.with) c.self.view_is)

@@ -1,22 +1,32 @@
 -- For callers: what is there stays there, and which keys avoid a place, as the edits ask. `Asr::sound` gives `Sound`.
-use Rattle.std.proofs.Common.{◌≡◌, ℕ, zero, suc, Bool, true, List, [], ◌∷◌, ◌++◌, Option, Some, None, is_some, refl, sym, ap, subst, ◌∙◌, arith, true≢false}
+use Rattle.std.proofs.Common.{◌≡◌, ℕ, zero, suc, ◌<◌, Bool, true, List, [], ◌∷◌, ◌++◌, length, slice_get, Option, Some, None, is_some, refl, sym, ap, subst, ◌∙◌, arith, true≢false}
 use Rattle.std.specs.List.{list_all}
 use Rattle.std.proofs.lemmas.Bool.{and_parts, and_from}
 use Rattle.symtab_arena.specs.Scopes.{Scopes}
 use Rattle.asr_nodes.specs.declared.node.Symbol.{Symbol}
-use Rattle.asr_nodes.specs.Keys.{Key, Node, is_other}
-use Rattle.asr_nodes.specs.Nodes.{Nodes, Sound, Extends, node_at, node_count, there, avoid}
+use Rattle.asr_nodes.specs.Keys.{Key, expr, stmt, Node, is_other}
+use Rattle.asr_nodes.specs.Nodes.{Nodes, Sound, Extends, Replaces, HasExpr, HasStmt, node_at, node_count, tree_at, expr_tree, stmt_tree, there, avoid}
 use Rattle.asr_nodes.specs.Parts.{parts}
+use Rattle.asr_nodes.specs.Reading.{Path, node_tree}
+use Rattle.lf_base.specs.declared.id.ExprId.{ExprId}
+use Rattle.lf_base.specs.declared.id.StmtId.{StmtId}
+use Rattle.lf_base.specs.declared.id.SymId.{SymId}
 use Rattle.asr_nodes.specs.Walks.{passes, ends}
 use Rattle.asr_nodes.proofs.Avoids as walks
 use Rattle.asr_nodes.proofs.Counts.{short}
 use Rattle.asr_nodes.proofs.Grows.{some_is}
 use Rattle.asr_nodes.proofs.Places.{keys_of, keys_counted, keys_cover, this_or_other}
-use Rattle.asr_nodes.proofs.Walks.{all_weaker, seen, ends_kept}
+use Rattle.asr_nodes.proofs.Same.{same}
+use Rattle.asr_nodes.proofs.Walks.{all_weaker, all_each, seen, ends_kept}
 
 -- a walk that ends within any number of steps ends within the number of nodes
 steps : (a : Nodes) (free : Key → Bool) (n : ℕ) (key : Key) → ends parts free (node_at a) n key ≡ true → ends parts free (node_at a) (node_count a) key ≡ true
 steps a free n key e = subst (λ i. ends parts free (node_at a) i key ≡ true) (keys_counted a) (short parts free (node_at a) (keys_of a) (keys_cover a) n key e)
+
+got : {A : Type 0} (xs : List A) (i : ℕ) → i < length xs → (x : A) × (slice_get xs i ≡ Some x)
+got [] i l = absurd (omega arith)
+got (y ∷ ys) zero l = (y, refl)
+got (y ∷ ys) (suc i) l = got ys i (omega arith)
 
 -- After `build_symbol` and `replace_symbol`, which say that other fields are as they were.
 pub scopes_extend : (a : Nodes) (scopes : Scopes Symbol) → Extends a (record a { scopes = scopes })
@@ -29,6 +39,13 @@ module _ (old new : Nodes) (more : Extends old new) where
   there_still keys =
       all_weaker (λ key. is_some (node_at old key)) (λ key. is_some (node_at new key))
       (λ key e. let x = some_is (node_at old key) e in ap is_some (more.nodes key x.0 x.1)) keys
+
+  -- has the tree that it had,
+  pub expr_kept : (id : ExprId) → HasExpr old id → (path : SymId → Path) → expr_tree new path id ≡ expr_tree old path id
+  expr_kept id l path = let x = got old.exprs id.0 l in more.trees (expr id) x.0 x.1 path
+
+  pub stmt_kept : (id : StmtId) → HasStmt old id → (path : SymId → Path) → stmt_tree new path id ≡ stmt_tree old path id
+  stmt_kept id l path = let x = got old.stmts id.0 l in more.trees (stmt id) x.0 x.1 path
 
   -- and what avoided a place avoids it.
   pub avoid_still : (at : Key) (keys : List Key) → avoid old at keys ≡ true → avoid new at keys ≡ true
@@ -59,3 +76,34 @@ module _ (a : Nodes) (at : Key) where
       by : (n : ℕ) (key : Key) → ends parts (is_other at) (node_at a) n key ≡ true → is_some (node_at a key) ≡ true
       by zero key e = absurd (true≢false (sym e))
       by (suc n) key e = let z = seen (λ x. list_all (ends parts (is_other at) (node_at a) n) (parts key x)) (node_at a key) (and_parts _ _ e).1 in ap is_some z.1
+
+-- After `replace` and `replace_expr`.
+module _ (old new : Nodes) (at : Key) (x : Node at) (edit : Replaces old new at x) where
+  holds_apart : (key : Key) (y : Node key) → is_other at key ≡ true → node_at old key ≡ Some y → node_at new key ≡ Some y
+  holds_apart key y t e = (edit.others key y t e).node
+
+  avoids_one : (n : ℕ) (key : Key) → ends parts (is_other at) (node_at old) n key ≡ true → is_some (node_at new key) ≡ true
+  avoids_one zero key e = absurd (true≢false (sym e))
+  avoids_one (suc n) key e =
+      let b = and_parts _ _ e in
+      let z = seen (λ x. list_all (ends parts (is_other at) (node_at old) n) (parts key x)) (node_at old key) b.1 in
+      ap is_some (holds_apart key z.0 b.0 z.1)
+
+  -- What avoided the place is there,
+  pub apart_there : (keys : List Key) → avoid old at keys ≡ true → there new keys ≡ true
+  apart_there keys = all_weaker (ends parts (is_other at) (node_at old) (node_count old)) (λ key. is_some (node_at new key)) (avoids_one (node_count old)) keys
+
+  -- avoids it,
+  pub apart_still : (keys : List Key) → avoid old at keys ≡ true → avoid new at keys ≡ true
+  apart_still keys =
+      all_weaker (ends parts (is_other at) (node_at old) (node_count old)) (ends parts (is_other at) (node_at new) (node_count new))
+      (λ key e.
+      steps new (is_other at) (node_count old) key
+      (ends_kept parts (is_other at) (is_other at) (node_at old) (node_at new) holds_apart (λ _ t. t) (node_count old) (node_count old) key (omega arith) e))
+      keys
+
+  -- and a node whose parts avoided it stands for what it stood for.
+  pub apart_node : (path : SymId → Path) (key : Key) (y : Node key) → avoid old at (parts key y) ≡ true → node_tree path (tree_at new path) key y ≡ node_tree path (tree_at old path) key y
+  apart_node path key y e =
+      same path (tree_at new path) (tree_at old path) key y
+      (all_each (ends parts (is_other at) (node_at old) (node_count old)) (λ j. tree_at new path j ≡ tree_at old path j) (λ j t. edit.apart j (and_from _ _ t refl) path) (parts key y) e)

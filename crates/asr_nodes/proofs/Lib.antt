@@ -11,6 +11,7 @@ pub mod PrintItems
 pub mod Pushes
 pub mod Replaces
 pub mod Same
+pub mod SampleLemmas
 pub mod Splicing
 pub mod Symbols
 pub mod Texts

@@ -1,8 +1,12 @@
 -- For callers: what is there stays there, and which keys avoid a place, as the edits ask. `Asr::sound` gives `Sound`.
-use Rattle.std.proofs.Common.{◌≡◌, ℕ, zero, suc, ◌<◌, Bool, true, List, [], ◌∷◌, ◌++◌, length, slice_get, Option, Some, None, is_some, refl, sym, ap, subst, ◌∙◌, arith, true≢false}
+use Rattle.std.proofs.Common.{◌≡◌, ◌≢◌, ℕ, zero, suc, ◌<◌, Bool, true, List, [], ◌∷◌, ◌++◌, length, slice_get, Option, Some, None, is_some, refl, sym, ap, subst, ◌∙◌, arith, true≢false}
 use Rattle.std.specs.List.{list_all}
 use Rattle.std.proofs.lemmas.Bool.{and_parts, and_from}
-use Rattle.symtab_arena.specs.Scopes.{Scopes}
+use Rattle.lf_base.specs.declared.id.TableId.{TableId}
+use Rattle.symtab_arena.specs.Links.{Linked}
+use Rattle.symtab_arena.specs.Scopes.{Scopes, HasTable, symbol_at, owner_of}
+use Rattle.symtab_arena.specs.declared.table.Symbol.{Symbol as Entry}
+use Rattle.asr_nodes.specs.Symbols.{table_in}
 use Rattle.asr_nodes.specs.declared.node.Symbol.{Symbol}
 use Rattle.asr_nodes.specs.Keys.{Key, expr, stmt, Node, is_other}
 use Rattle.asr_nodes.specs.Nodes.{Nodes, Sound, Extends, Replaces, HasExpr, HasStmt, node_at, node_count, tree_at, expr_tree, stmt_tree, there, avoid}
@@ -107,3 +111,11 @@ module _ (old new : Nodes) (at : Key) (x : Node at) (edit : Replaces old new at 
   apart_node path key y e =
       same path (tree_at new path) (tree_at old path) key y
       (all_each (ends parts (is_other at) (node_at old) (node_count old)) (λ j. tree_at new path j ≡ tree_at old path j) (λ j t. edit.apart j (and_from _ _ t refl) path) (parts key y) e)
+
+-- The tables of units, functions, subroutines and types: each table but the root is owned by the symbol that names it.
+module _ (a : Nodes) (h : Sound a) (links : Linked a.scopes) where
+  pub named_is_owned : (id : SymId) (it : Entry Symbol) (t : TableId) → symbol_at a.scopes id ≡ Some it → table_in it.what ≡ Some t → owner_of a.scopes t ≡ Some id
+  named_is_owned id it t live e = links.owned id it t live (h.owned id it live ∙ e)
+
+  pub owner_names : (t : TableId) → HasTable a.scopes t → t.0 ≢ 0 → (id : SymId) × (it : Entry Symbol) × (owner_of a.scopes t ≡ Some id) × (symbol_at a.scopes id ≡ Some it) × (table_in it.what ≡ Some t)
+  owner_names t here other = let o = links.owners t here other in (o.owner, o.symbol, o.owner_is, o.live, sym (h.owned o.owner o.symbol o.live) ∙ o.owns)

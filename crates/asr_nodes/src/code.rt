@@ -1,4 +1,4 @@
-//! The codes of the typed tree: the numbers that fields hold, and the tags of nodes, which texts of modules hold.
+//! The codes of the typed tree: the numbers that fields hold, and the tags of nodes, which module files hold.
 //! Operators have the codes of `lf_base::operator`, and intrinsic functions those of `type_rules::code`.
 ghost use Rattle.std.specs.Prelude.{◌≡◌};
 ghost use Rattle.asr_nodes.specs.Tags.{expr_tag, stmt_tag};

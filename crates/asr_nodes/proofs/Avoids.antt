@@ -1,10 +1,10 @@
 -- Which walks do not come by a key.
-use Rattle.std.proofs.Common.{◌≡◌, ℕ, zero, suc, ◌≤◌, Bool, true, false, ◌&&◌, List, Option, Some, None, refl, sym, ap, subst, ◌∙◌, arith, true≢false, ◌⊎◌, inl, inr}
+use Rattle.std.proofs.Common.{◌≡◌, ℕ, zero, suc, Bool, true, false, List, Option, Some, sym, subst, ◌∙◌, arith, true≢false, ◌⊎◌, inl, inr}
 use Rattle.std.specs.List.{list_all}
-use Rattle.std.proofs.lemmas.Bool.{and_parts, and_from}
+use Rattle.std.proofs.lemmas.Bool.{and_from}
 use Rattle.asr_nodes.specs.Walks.{passes, ends, Founded}
 use Rattle.asr_nodes.proofs.Counts.{tests}
-use Rattle.asr_nodes.proofs.Walks.{all_weaker, seen, longer, ends_kept}
+use Rattle.asr_nodes.proofs.Walks.{all_weaker, seen, longer}
 
 module _ {K : Type 0} {X : K → Type 0} (parts : (k : K) → X k → List K) (look : (k : K) → Option (X k)) (at : K) (free : K → Bool) (decides : (k : K) → (k ≡ at) ⊎ (free k ≡ true)) where
   still : (n : ℕ) → ends parts (λ _. true) look (suc n) at ≡ false → ends parts (λ _. true) look n at ≡ false

@@ -1,5 +1,5 @@
 -- No nodes, and the root table with no symbol.
-use Rattle.std.proofs.Common.{◌≡◌, ℕ, List, [], ◌∷◌, slice_get, Option, Some, None, is_some, false, true, refl, sym, ap, subst, ◌∙◌, true≢false}
+use Rattle.std.proofs.Common.{◌≡◌, ℕ, List, [], Some, None, is_some, true, sym, ap, subst, true≢false}
 use Rattle.lf_base.specs.declared.id.TableId.{TableId}
 use Rattle.symtab_arena.specs.Scopes.{Scopes, the_root}
 use Rattle.asr_nodes.specs.Keys.{Key, expr, stmt, Node}

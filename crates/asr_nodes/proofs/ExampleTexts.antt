@@ -1,16 +1,14 @@
 -- The texts of small trees.
-use Rattle.std.proofs.Common.{◌≡◌, ℕ, pos, negsuc, List, [], ◌∷◌, ◌++◌, codes, map, ap, ◌∙◌, refl, Some, None}
+use Rattle.std.proofs.Common.{◌≡◌, ℕ, pos, List, [], ◌∷◌, ◌++◌, codes, ap, ◌∙◌, None}
 use Rattle.std.specs.Fmt.{digits, decimal, signed_decimal}
 use Rattle.lf_base.specs.Contents.{joined}
 use Rattle.ast_nodes.specs.Node.{node, listed, optional}
-use Rattle.asr_nodes.specs.declared.node.CaseRange.TheVariants.{Between}
-use Rattle.asr_nodes.specs.declared.tree.CaseTree.{CaseTree}
 use Rattle.asr_nodes.specs.declared.tree.ExprTree.TheVariants.{Binary}
 use Rattle.asr_nodes.specs.declared.tree.PrintItemTree.TheVariants.{Value}
 use Rattle.asr_nodes.specs.declared.tree.SectionPartTree.TheVariants.{At, Triple}
-use Rattle.asr_nodes.specs.declared.tree.StmtTree.TheVariants.{Assign, Select, Print, Return}
+use Rattle.asr_nodes.specs.declared.tree.StmtTree.TheVariants.{Assign}
 use Rattle.asr_nodes.specs.Examples.{literal, program, variable, x, section, home, block, selection}
-use Rattle.asr_nodes.specs.Text.{Text, const_text, range_text, expr_text, stmt_text, print_item_text, section_part_text, case_text, symbol_text, unit_text, unit_lines, path_text}
+use Rattle.asr_nodes.specs.Text.{Text, expr_text, stmt_text, print_item_text, symbol_text, unit_text, unit_lines}
 use Rattle.asr_nodes.proofs.Texts.{expr_text-IntConst, expr_text-Var, expr_text-Section, expr_text-Binary, section_part_text-At, section_part_text-Triple, print_item_text-Value, stmt_text-Assign, stmt_text-Select, stmt_text-Print, stmt_text-Return, case_text-block, symbol_text-Function, symbol_text-Variable}
 
 literal_text : (value : ℕ) → expr_text (literal value) ≡ node (codes "IntConst") (decimal 4 ∷ signed_decimal (pos value) ∷ [])

@@ -1,13 +1,12 @@
 -- The nodes of a program, and one more.
-use Rattle.std.proofs.Common.{◌≡◌, ℕ, zero, suc, ◌+◌, ◌<◌, ◌≤◌, Bool, true, false, not, ◌==◌, List, [], ◌∷◌, ◌++◌, map, length, slice_get, slice_set, Option, Some, None, is_some, get_or, refl, sym, ap, subst, ◌∙◌, arith, true≢false, length-append, ◌⊎◌, inl, inr}
-use Rattle.std.specs.List.{list_all, AllByRecursion}
-use Rattle.std.proofs.lemmas.Bool.{and_parts, and_from, cases_lt}
+use Rattle.std.proofs.Common.{◌≡◌, ℕ, zero, suc, true, List, [], ◌∷◌, ◌++◌, length, slice_get, Option, Some, None, is_some, refl, sym, ap, subst, ◌∙◌, arith, true≢false, length-append, ◌⊎◌, inl, inr}
+use Rattle.std.specs.List.{list_all}
 use Rattle.std.proofs.lemmas.Grind.{common_steps}
-use Rattle.std.proofs.lemmas.Option.{slice_get_within, slice_get-get_or, slice_get_past}
+use Rattle.std.proofs.lemmas.Option.{slice_get-get_or}
 use Rattle.lf_base.specs.declared.id.ExprId.{ExprId}
 use Rattle.lf_base.specs.declared.id.StmtId.{StmtId}
 use Rattle.lf_base.specs.declared.id.SymId.{SymId}
-use Rattle.asr_nodes.specs.Keys.{Key, expr, stmt, Node, Tree, is_other}
+use Rattle.asr_nodes.specs.Keys.{Key, expr, stmt, Node}
 use Rattle.asr_nodes.specs.Nodes.{Nodes, Sound, Extends, StandsFor, node_at, node_count, tree_at, there, with_expr, with_stmt}
 use Rattle.asr_nodes.specs.Parts.{parts, expr_parts, stmt_parts}
 use Rattle.asr_nodes.specs.Symbols.{symbol_parts}
@@ -17,7 +16,7 @@ use Rattle.symtab_arena.specs.Scopes.{symbol_at}
 use Rattle.asr_nodes.specs.declared.node.Expr.{Expr}
 use Rattle.asr_nodes.specs.declared.node.Stmt.{Stmt}
 use Rattle.asr_nodes.proofs.Same.{same}
-use Rattle.asr_nodes.proofs.Walks.{all_weaker, all_each, seen, parts_end, tree_is, tree_kept, more_founded, more_keeps}
+use Rattle.asr_nodes.proofs.Walks.{all_weaker, all_each, seen, parts_end, tree_is, more_founded, more_keeps}
 
 pub some_is : {A : Type 0} (o : Option A) → is_some o ≡ true → (x : A) × (o ≡ Some x)
 some_is (Some x) e = (x, refl)

@@ -1,6 +1,5 @@
 -- One node in the place of another, and the keys at which nodes stand.
-use Rattle.std.proofs.Common.{◌≡◌, ◌≢◌, ℕ, zero, suc, ◌+◌, ◌<◌, ◌≤◌, Bool, true, false, not, ◌==◌, List, [], ◌∷◌, ◌++◌, length, slice_get, slice_set, Option, Some, None, is_some, refl, sym, ap, subst, ◌∙◌, arith, true≢false, length-append, length-set, ◌⊎◌, inl, inr}
-use Rattle.std.specs.List.{list_all}
+use Rattle.std.proofs.Common.{◌≡◌, ◌≢◌, ℕ, zero, suc, ◌+◌, ◌<◌, true, not, ◌==◌, List, [], ◌∷◌, ◌++◌, length, slice_get, slice_set, Some, is_some, refl, sym, ap, subst, ◌∙◌, arith, true≢false, length-append, length-set, ◌⊎◌, inl, inr}
 use Rattle.std.proofs.lemmas.Bool.{and_parts, cases_lt}
 use Rattle.std.proofs.lemmas.Bool.Decides.{nat_tests, eqb_tells}
 use Rattle.std.proofs.lemmas.Option.{slice_get_within}
@@ -9,12 +8,12 @@ use Rattle.lf_base.specs.declared.id.StmtId.{StmtId}
 use Rattle.lf_base.specs.declared.id.SymId.{SymId}
 use Rattle.symtab_arena.specs.Scopes.{symbol_at}
 use Rattle.asr_nodes.specs.Ids.{expr_id, stmt_id}
-use Rattle.asr_nodes.specs.Keys.{Key, expr, stmt, Node, Tree, is_other}
-use Rattle.asr_nodes.specs.Nodes.{Nodes, Sound, StandsFor, Replaces, HasExpr, HasStmt, node_at, node_count, tree_at, there, avoid, with_expr_at, with_stmt_at}
+use Rattle.asr_nodes.specs.Keys.{Key, expr, stmt, Node, is_other}
+use Rattle.asr_nodes.specs.Nodes.{Nodes, Sound, Replaces, HasExpr, HasStmt, node_at, node_count, tree_at, avoid, with_expr_at, with_stmt_at}
 use Rattle.asr_nodes.specs.Parts.{parts, expr_parts, stmt_parts}
 use Rattle.asr_nodes.specs.Reading.{Path, node_tree, no_tree}
 use Rattle.asr_nodes.specs.Symbols.{symbol_parts}
-use Rattle.asr_nodes.specs.Walks.{ends, Founded, tree_within}
+use Rattle.asr_nodes.specs.Walks.{Founded, tree_within}
 use Rattle.asr_nodes.specs.declared.node.Expr.{Expr}
 use Rattle.asr_nodes.specs.declared.node.Stmt.{Stmt}
 use Rattle.asr_nodes.proofs.Counts.{In}

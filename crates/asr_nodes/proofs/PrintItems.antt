@@ -1,5 +1,5 @@
 -- Induction over the items of output lists, and items whose parts have the same trees.
-use Rattle.std.proofs.Common.{◌≡◌, List, [], ◌∷◌, ◌++◌, map, refl, sym, ap, subst, ◌∙◌}
+use Rattle.std.proofs.Common.{◌≡◌, List, [], ◌∷◌, map, refl, sym, ap, subst, ◌∙◌}
 use Rattle.std.specs.List.{AllByRecursion}
 use Rattle.lf_base.specs.declared.id.ExprId.{ExprId}
 use Rattle.lf_base.specs.declared.id.SymId.{SymId}

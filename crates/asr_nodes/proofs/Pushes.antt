@@ -1,9 +1,9 @@
 -- A node that was put last, as the code has it: the fields are those of the old value, but for one list.
-use Rattle.std.proofs.Common.{◌≡◌, ℕ, true, List, [], ◌∷◌, ◌++◌, length, refl, sym, ap, subst, ◌∙◌}
+use Rattle.std.proofs.Common.{◌≡◌, true, List, [], ◌∷◌, ◌++◌, length, sym, subst}
 use Rattle.lf_base.specs.declared.id.ExprId.{ExprId}
 use Rattle.lf_base.specs.declared.id.StmtId.{StmtId}
 use Rattle.asr_nodes.specs.Keys.{expr, stmt}
-use Rattle.asr_nodes.specs.Nodes.{Nodes, Sound, Extends, StandsFor, there, with_expr, with_stmt}
+use Rattle.asr_nodes.specs.Nodes.{Nodes, Sound, Extends, StandsFor, there}
 use Rattle.asr_nodes.specs.Parts.{expr_parts, stmt_parts}
 use Rattle.asr_nodes.specs.declared.node.Expr.{Expr}
 use Rattle.asr_nodes.specs.declared.node.Stmt.{Stmt}

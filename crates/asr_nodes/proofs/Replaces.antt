@@ -1,7 +1,7 @@
 -- One node in the place of another.
-use Rattle.std.proofs.Common.{◌≡◌, ℕ, zero, suc, ◌+◌, ◌<◌, ◌≤◌, Bool, true, false, ◌&&◌, List, [], ◌∷◌, length, Option, Some, None, refl, sym, ap, subst, ◌∙◌, arith, true≢false, ◌⊎◌, inl, inr}
+use Rattle.std.proofs.Common.{◌≡◌, ℕ, zero, suc, ◌+◌, ◌<◌, ◌≤◌, Bool, true, List, length, Option, Some, refl, sym, subst, ◌∙◌, arith, true≢false, ◌⊎◌, inl, inr}
 use Rattle.std.specs.List.{list_all, AllByRecursion}
-use Rattle.asr_nodes.specs.Walks.{passes, made, ends, Founded, tree_within}
+use Rattle.asr_nodes.specs.Walks.{passes, ends, Founded, tree_within}
 use Rattle.asr_nodes.proofs.Counts.{In, short}
 use Rattle.asr_nodes.proofs.Walks.{all_weaker, all_each, seen, ends_kept, tree_kept, tree_is}
 

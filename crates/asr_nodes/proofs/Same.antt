@@ -1,27 +1,20 @@
 -- Nodes whose parts have the same trees have the same tree.
-use Rattle.std.proofs.Common.{◌≡◌, ℕ, List, [], ◌∷◌, ◌++◌, map, Option, Some, None, option_map, refl, sym, ap, subst, ◌∙◌}
+use Rattle.std.proofs.Common.{◌≡◌, map, refl, ap}
 use Rattle.std.specs.List.{AllByRecursion}
-use Rattle.lf_base.specs.declared.id.ExprId.{ExprId}
-use Rattle.lf_base.specs.declared.id.StmtId.{StmtId}
 use Rattle.lf_base.specs.declared.id.SymId.{SymId}
-use Rattle.asr_nodes.specs.Keys.{Key, expr, stmt, Node, Tree, exprs, stmts, perhaps, chained}
+use Rattle.asr_nodes.specs.Keys.{Key, expr, stmt, Node, Tree, stmts, perhaps, chained}
 use Rattle.asr_nodes.specs.Parts.{parts, expr_parts, stmt_parts, section_part_parts, array_item_parts, print_item_parts, case_parts}
 use Rattle.asr_nodes.specs.Reading.{Path, Reading, reading, node_tree, expr_node, stmt_node, section_part_node, array_item_node, print_item_node, case_node, elem_node}
-use Rattle.asr_nodes.specs.declared.node.ArrayItem.{ArrayItem}
 use Rattle.asr_nodes.specs.declared.node.Case.{Case}
 use Rattle.asr_nodes.specs.declared.node.Expr.{Expr}
 use Rattle.asr_nodes.specs.declared.node.Expr.TheVariants as e
-use Rattle.asr_nodes.specs.declared.node.PrintItem.{PrintItem}
 use Rattle.asr_nodes.specs.declared.node.SectionPart.{SectionPart}
 use Rattle.asr_nodes.specs.declared.node.SectionPart.TheVariants as part
 use Rattle.asr_nodes.specs.declared.node.Stmt.{Stmt}
 use Rattle.asr_nodes.specs.declared.node.Stmt.TheVariants as s
-use Rattle.asr_nodes.specs.declared.tree.ExprTree.{ExprTree}
 use Rattle.asr_nodes.specs.declared.tree.ExprTree.TheVariants as et
 use Rattle.asr_nodes.specs.declared.tree.SectionPartTree.TheVariants as spt
-use Rattle.asr_nodes.specs.declared.tree.StmtTree.{StmtTree}
 use Rattle.asr_nodes.specs.declared.tree.StmtTree.TheVariants as st
-use Rattle.asr_nodes.specs.declared.tree.CaseTree.{CaseTree}
 use Rattle.asr_nodes.proofs.ArrayItems.{array_items_same}
 use Rattle.asr_nodes.proofs.PrintItems.{print_items_same}
 use Rattle.asr_nodes.proofs.Alike.{Alike, first, last, exprs_same, stmts_same, perhaps_same, list_same}

@@ -1,8 +1,8 @@
 -- What the sample callers show.
-use Rattle.std.proofs.Common.{◌≡◌, ◌≢◌, ℕ, ◌<◌, true, List, length, slice_set, Some, sym, ap, subst, ◌∙◌, arith, length-set}
+use Rattle.std.proofs.Common.{◌≡◌, ◌≢◌, true, length, Some, sym, ap, ◌∙◌, arith, length-set}
 use Rattle.lf_base.specs.declared.id.ExprId.{ExprId}
 use Rattle.lf_base.specs.declared.id.SymId.{SymId}
-use Rattle.asr_nodes.specs.Keys.{expr, is_other}
+use Rattle.asr_nodes.specs.Keys.{expr}
 use Rattle.asr_nodes.specs.Nodes.{Nodes, Sound, Extends, StandsFor, Replaces, HasExpr, node_at, expr_tree, avoid, with_expr_at}
 use Rattle.asr_nodes.specs.Parts.{expr_parts}
 use Rattle.asr_nodes.specs.Reading.{Path}

@@ -1,28 +1,25 @@
 -- Several new statements, and a block of them in the place of a statement.
-use Rattle.std.proofs.Common.{◌≡◌, ℕ, zero, suc, ◌+◌, ◌-◌, ◌<◌, ◌≤◌, Bool, true, false, ◌&&◌, List, [], ◌∷◌, ◌++◌, map, length, slice_get, slice_set, Option, Some, None, is_some, refl, sym, ap, subst, ◌∙◌, arith, true≢false, length-append, length-set, ◌⊎◌, inl, inr}
+use Rattle.std.proofs.Common.{◌≡◌, ℕ, zero, suc, ◌+◌, ◌-◌, ◌<◌, ◌≤◌, Bool, true, List, [], ◌∷◌, ◌++◌, map, length, slice_get, slice_set, Some, is_some, refl, sym, ap, subst, ◌∙◌, arith, length-append, ◌⊎◌, inl, inr}
 use Rattle.std.specs.List.{list_all, AllByRecursion}
 use Rattle.std.proofs.lemmas.Bool.{and_parts, and_from}
 use Rattle.lf_base.specs.declared.id.StmtId.{StmtId}
 use Rattle.lf_base.specs.declared.id.SymId.{SymId}
-use Rattle.symtab_arena.specs.Scopes.{symbol_at}
 use Rattle.asr_nodes.specs.Ids.{stmt_id}
-use Rattle.asr_nodes.specs.Keys.{Key, expr, stmt, stmts, Node, Tree, is_other, chained}
-use Rattle.asr_nodes.specs.Nodes.{Nodes, Sound, StandsFor, Replaces, HasStmt, node_at, node_count, tree_at, stmt_tree, reads, there, avoid, with_stmt_at}
+use Rattle.asr_nodes.specs.Keys.{Key, expr, stmt, stmts, Node, is_other, chained}
+use Rattle.asr_nodes.specs.Nodes.{Nodes, Sound, Replaces, HasStmt, node_at, node_count, tree_at, stmt_tree, reads, avoid}
 use Rattle.asr_nodes.specs.Parts.{parts, stmt_parts}
 use Rattle.asr_nodes.specs.Reading.{Path, node_tree, no_tree, stmt_node}
 use Rattle.asr_nodes.specs.Splices.{stmts_from, line_at, block_of, spliced, are_apart, Splices}
 use Rattle.asr_nodes.specs.Symbols.{symbol_parts}
-use Rattle.asr_nodes.specs.Walks.{passes, ends, Founded, Holds, tree_within}
+use Rattle.asr_nodes.specs.Walks.{passes, ends, Founded, Holds}
 use Rattle.asr_nodes.specs.declared.node.Stmt.{Stmt}
 use Rattle.asr_nodes.specs.declared.node.Stmt.TheVariants as s
-use Rattle.asr_nodes.specs.declared.tree.StmtTree.{StmtTree}
 use Rattle.asr_nodes.specs.declared.tree.StmtTree.TheVariants as st
 use Rattle.asr_nodes.proofs.Counts.{short}
-use Rattle.asr_nodes.proofs.Grows.{all_end, some_is}
-use Rattle.asr_nodes.proofs.Grows as grows
+use Rattle.asr_nodes.proofs.Grows.{some_is}
 use Rattle.asr_nodes.proofs.Places.{keys_of, keys_counted, keys_cover, is_not, stmt_placed, stmt_placed_sound}
 use Rattle.asr_nodes.proofs.Same.{same}
-use Rattle.asr_nodes.proofs.Walks.{all_weaker, all_each, seen, longer, ends_kept, tree_kept, tree_is, more_founded}
+use Rattle.asr_nodes.proofs.Walks.{all_weaker, all_each, ends_kept, tree_kept, tree_is, more_founded}
 
 pub all_first : {K : Type 0} (p : K → Bool) (ks js : List K) → list_all p (ks ++ js) ≡ true → list_all p ks ≡ true
 all_first p [] js e = refl

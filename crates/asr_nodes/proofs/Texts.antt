@@ -1,11 +1,10 @@
 -- The text at each shape of a tree.
 use Rattle.std.proofs.Common.{◌≡◌, ℕ, ℤ, List, map, Option, option_map, sym, ap, ◌∙◌}
-use Rattle.asr_nodes.specs.declared.node.CaseRange.{CaseRange}
 use Rattle.asr_nodes.specs.declared.tree.ElemTree.{ElemTree}
 use Rattle.asr_nodes.specs.declared.tree.TypeTree.{TypeTree}
 use Rattle.asr_nodes.specs.declared.tree.ArrayItemTree.{ArrayItemTree, ArrayItemTree-F}
 use Rattle.asr_nodes.specs.declared.tree.ArrayItemTree.TheVariants as array_item_shape
-use Rattle.asr_nodes.specs.declared.tree.CaseTree.{CaseTree, CaseTree-F}
+use Rattle.asr_nodes.specs.declared.tree.CaseTree.{CaseTree}
 use Rattle.asr_nodes.specs.declared.tree.ExprTree.{ExprTree, ExprTree-F}
 use Rattle.asr_nodes.specs.declared.tree.ExprTree.TheVariants as expr_shape
 use Rattle.asr_nodes.specs.declared.tree.PrintItemTree.{PrintItemTree, PrintItemTree-F}

@@ -1,13 +1,12 @@
 -- A fold over trees at each of their shapes.
 use Rattle.std.proofs.Common.{◌≡◌, ℕ, ℤ, List, map, Option, Some, None, refl, sym, ap, ◌∙◌, option_map}
-use Rattle.asr_nodes.specs.declared.node.CaseRange.{CaseRange}
 use Rattle.asr_nodes.specs.declared.tree.ElemTree.{ElemTree}
-use Rattle.asr_nodes.specs.declared.tree.ArrayItemTree.{ArrayItemTree, ArrayItemTree-F, map-ArrayItemTree, fold-ArrayItemTree, fold-roll-ArrayItemTree}
+use Rattle.asr_nodes.specs.declared.tree.ArrayItemTree.{ArrayItemTree, ArrayItemTree-F, fold-ArrayItemTree, fold-roll-ArrayItemTree}
 use Rattle.asr_nodes.specs.declared.tree.ArrayItemTree.TheVariants as array_item_shape
-use Rattle.asr_nodes.specs.declared.tree.CaseTree.{CaseTree, CaseTree-F, map-CaseTree, fold-CaseTree, fold-roll-CaseTree}
+use Rattle.asr_nodes.specs.declared.tree.CaseTree.{CaseTree, CaseTree-F, fold-CaseTree, fold-roll-CaseTree}
 use Rattle.asr_nodes.specs.declared.tree.ExprTree.{ExprTree, ExprTree-F, map-ExprTree, fold-ExprTree, fold-roll-ExprTree}
 use Rattle.asr_nodes.specs.declared.tree.ExprTree.TheVariants as expr_shape
-use Rattle.asr_nodes.specs.declared.tree.PrintItemTree.{PrintItemTree, PrintItemTree-F, map-PrintItemTree, fold-PrintItemTree, fold-roll-PrintItemTree}
+use Rattle.asr_nodes.specs.declared.tree.PrintItemTree.{PrintItemTree, PrintItemTree-F, fold-PrintItemTree, fold-roll-PrintItemTree}
 use Rattle.asr_nodes.specs.declared.tree.PrintItemTree.TheVariants as print_item_shape
 use Rattle.asr_nodes.specs.declared.tree.SectionPartTree.{SectionPartTree, SectionPartTree-F, map-SectionPartTree, fold-SectionPartTree, fold-roll-SectionPartTree}
 use Rattle.asr_nodes.specs.declared.tree.SectionPartTree.TheVariants as section_part_shape

@@ -1,5 +1,5 @@
 -- Small trees, to read the text by.
-use Rattle.std.specs.Prelude.{ℕ, pos, negsuc, List, [], ◌∷◌, codes, Some, None}
+use Rattle.std.specs.Prelude.{ℕ, pos, negsuc, [], ◌∷◌, codes, None}
 use Rattle.type_rules.specs.declared.constant.Const.TheVariants as constant
 use Rattle.type_rules.specs.declared.ty.Dim.TheVariants as dim
 use Rattle.asr_nodes.specs.declared.node.CaseRange.TheVariants.{Between}

@@ -1,5 +1,5 @@
 -- The keys of nodes: expressions and statements in one space, since they lead to each other.
-use Rattle.std.specs.Prelude.{ℕ, Bool, true, not, ◌==◌, List, [], ◌∷◌, ◌++◌, map, Option, Some, None}
+use Rattle.std.specs.Prelude.{Bool, true, not, ◌==◌, List, [], ◌∷◌, ◌++◌, map, Option, Some, None}
 use Rattle.lf_base.specs.declared.id.ExprId.{ExprId}
 use Rattle.lf_base.specs.declared.id.StmtId.{StmtId}
 use Rattle.asr_nodes.specs.declared.node.Expr.{Expr}

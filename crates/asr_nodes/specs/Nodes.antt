@@ -1,19 +1,18 @@
 -- The nodes of a program by number, and the trees that they stand for.
-use Rattle.std.specs.Prelude.{◌≡◌, ℕ, ◌+◌, ◌<◌, ◌≤◌, Bool, true, List, [], ◌∷◌, ◌++◌, length, slice_get, slice_set, Option, Some, None, Result, Ok, Err, is_some}
+use Rattle.std.specs.Prelude.{◌≡◌, ℕ, ◌+◌, ◌<◌, Bool, true, List, [], ◌∷◌, ◌++◌, length, slice_get, slice_set, Option, Some, Result, Ok, Err, is_some}
 use Rattle.std.specs.List.{list_all}
 use Rattle.lf_base.specs.declared.id.ExprId.{ExprId}
 use Rattle.lf_base.specs.declared.id.StmtId.{StmtId}
 use Rattle.lf_base.specs.declared.id.SymId.{SymId}
-use Rattle.lf_base.specs.declared.id.TableId.{TableId}
 use Rattle.lf_base.specs.declared.fault.Memory.{Memory}
 use Rattle.symtab_arena.specs.Scopes.{Scopes, symbol_at, the_root}
 use Rattle.symtab_arena.specs.declared.table.Symbol.{Symbol as Entry}
 use Rattle.asr_nodes.specs.Walks.{ends, Founded, tree_within}
-use Rattle.asr_nodes.specs.Keys.{Key, expr, stmt, Node, Tree, is_other, exprs, stmts}
+use Rattle.asr_nodes.specs.Keys.{Key, expr, stmt, Node, Tree, is_other}
 use Rattle.asr_nodes.specs.Noted.{Noted}
-use Rattle.asr_nodes.specs.Parts.{parts, expr_parts, stmt_parts}
+use Rattle.asr_nodes.specs.Parts.{parts}
 use Rattle.asr_nodes.specs.Symbols.{table_in, is_root, is_unit, symbol_parts}
-use Rattle.asr_nodes.specs.Reading.{Path, Reading, reading, node_tree, no_tree, expr_node, stmt_node}
+use Rattle.asr_nodes.specs.Reading.{Path, Reading, reading, node_tree, no_tree}
 use Rattle.asr_nodes.specs.declared.node.Symbol.{Symbol}
 use Rattle.asr_nodes.specs.declared.node.Expr.{Expr}
 use Rattle.asr_nodes.specs.declared.node.Stmt.{Stmt}

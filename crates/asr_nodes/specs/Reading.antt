@@ -1,5 +1,5 @@
 -- The tree that a node stands for, from what the numbers in it stand for.
-use Rattle.std.specs.Prelude.{ℕ, List, map, Option, option_map}
+use Rattle.std.specs.Prelude.{ℕ, List, map, option_map}
 use Rattle.lf_base.specs.declared.id.ExprId.{ExprId}
 use Rattle.lf_base.specs.declared.id.StmtId.{StmtId}
 use Rattle.lf_base.specs.declared.id.SymId.{SymId}

@@ -1,5 +1,5 @@
 -- The text of trees: each node in parentheses, its tag and its fields in order, and a symbol by its path from the unit.
-use Rattle.std.specs.Prelude.{ℕ, ℤ, List, [], ◌∷◌, ◌++◌, codes, map, Option, option_map}
+use Rattle.std.specs.Prelude.{ℕ, List, [], ◌∷◌, ◌++◌, codes, map, option_map}
 use Rattle.std.specs.Fmt.{decimal, signed_decimal}
 use Rattle.lf_base.specs.Contents.{joined}
 use Rattle.ast_nodes.specs.Node.{quoted, node, listed, optional}

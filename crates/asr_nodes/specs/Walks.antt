@@ -1,7 +1,7 @@
 -- Nodes by key, each of which names the keys of its parts: which walks over them end, and the tree that stands at a key.
 -- K are the keys, X k what may stand at the key k, and T k its trees.
 use Rattle.std.specs.Prelude.{◌≡◌, ℕ, zero, suc, Bool, true, false, ◌&&◌, List, Option, Some, None}
-use Rattle.std.specs.List.{list_all, AllByRecursion}
+use Rattle.std.specs.List.{list_all}
 
 abbrev pub passes : {A : Type 0} → (A → Bool) → Option A → Bool
 passes test (Some a) = test a

@@ -1,4 +1,4 @@
-use Rattle.std.proofs.Common.{◌∙◌, pos}
+use Rattle.std.proofs.Common.{◌∙◌}
 use Rattle.lf_base.specs.declared.operator.TheConstants.{MULTIPLY as multiply}
 use Rattle.asr_nodes.specs.declared.tree.ExprTree.TheVariants as tree
 use Rattle.asr_nodes.proofs.Callers.{expr_kept}

@@ -1,4 +1,3 @@
-use Rattle.std.proofs.Common.{rules}
 use Rattle.asr_nodes.proofs.SampleLemmas.{parts_apart, inner_apart, wrapped}
 use Rattle.asr_nodes.proofs.Callers.{apart_there}
 use Rattle.asr_nodes.specs.Keys.{expr}

@@ -1,5 +1,4 @@
-use Rattle.std.proofs.Common.{ap, sym, ◌∙◌, slice_get, rules}
-use Rattle.asr_nodes.specs.Nodes.{Nodes}
+use Rattle.std.proofs.Common.{rules}
 use Rattle.asr_nodes.proofs.Places.{set_stmt_sound, set_stmt}
 use Rattle.asr_nodes.proofs.asr.Asr.replace.Goals as goal
 

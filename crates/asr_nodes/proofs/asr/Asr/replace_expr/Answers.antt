@@ -1,5 +1,4 @@
-use Rattle.std.proofs.Common.{ap, sym, ◌∙◌, slice_get, rules}
-use Rattle.asr_nodes.specs.Nodes.{Nodes}
+use Rattle.std.proofs.Common.{rules}
 use Rattle.asr_nodes.proofs.Places.{set_expr_sound, set_expr}
 use Rattle.asr_nodes.proofs.asr.Asr.replace_expr.Goals as goal
 

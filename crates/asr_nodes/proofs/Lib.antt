@@ -5,6 +5,7 @@ pub mod Begins
 pub mod Callers
 pub mod Counts
 pub mod ExampleTexts
+pub mod ExampleTrees
 pub mod Grows
 pub mod Places
 pub mod PrintItems

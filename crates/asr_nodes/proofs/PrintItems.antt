@@ -41,7 +41,7 @@ parts-Value value = ap print_item_parts (sym (pi.rolls-Value value)) ∙ fold-ro
 parts-Loop : (variable : ExprId) (lower : ExprId) (upper : ExprId) (step : ExprId) (items : List PrintItem) → print_item_parts (pi.Loop variable lower upper step items) ≡ expr variable ∷ expr lower ∷ expr upper ∷ expr step ∷ chained (map print_item_parts items)
 parts-Loop variable lower upper step items = ap print_item_parts (sym (pi.rolls-Loop variable lower upper step items)) ∙ fold-roll-PrintItem (List Key) parts.print_item_layer (PrintItem-F.Loop variable lower upper step items)
 
-node-Value : (r : Reading) (value : ExprId) → print_item_node r (pi.Value value) ≡ pit.Value (r.expr value)
+pub node-Value : (r : Reading) (value : ExprId) → print_item_node r (pi.Value value) ≡ pit.Value (r.expr value)
 node-Value r value = ap (print_item_node r) (sym (pi.rolls-Value value)) ∙ fold-roll-PrintItem PrintItemTree (reading_of.print_item_layer r) (PrintItem-F.Value value)
 
 node-Loop : (r : Reading) (variable : ExprId) (lower : ExprId) (upper : ExprId) (step : ExprId) (items : List PrintItem) → print_item_node r (pi.Loop variable lower upper step items) ≡ pit.Loop (r.expr variable) (r.expr lower) (r.expr upper) (r.expr step) (map (print_item_node r) items)

@@ -1,0 +1,13 @@
+pub mod Examples
+pub mod Ids
+pub mod Keys
+pub mod Nodes
+pub mod Noted
+pub mod Parts
+pub mod Reading
+pub mod Splices
+pub mod Symbols
+pub mod Tags
+pub mod Text
+pub mod Units
+pub mod Walks

@@ -1,0 +1,18 @@
+//! The typed tree of a program by numbers: symbols in tables, expressions and statements in lists.
+#![tactic(auto)]
+
+mod asr;
+pub mod code;
+mod ids;
+pub mod law;
+mod node;
+mod sample;
+mod tree;
+
+pub use asr::Asr;
+pub use ids::ExprIds;
+pub use node::{ArrayItem, Case, CaseRange, Expr, PrintItem, SectionPart, Stmt, Symbol};
+pub use tree::{
+    ArrayItemTree, CaseTree, ElemTree, ExprTree, PrintItemTree, SectionPartTree, StmtTree,
+    SymbolTree, TypeTree, UnitTree,
+};

@@ -1,6 +1,6 @@
 #!/usr/bin/env bash
 # Builds assignments with their expressions, 100,000 and 1,000,000 of them, and prints the time and the memory that a node
-# takes; then builds, edits and drops an expression that is 4,000 deep within 8 MiB of stack. The program is made in a
+# takes; then builds and drops an expression that is 4,000 deep within 8 MiB of stack. The program is made in a
 # temporary copy of the repository. It is no part of the gate.
 set -euo pipefail
 for tool in rt git awk mktemp; do

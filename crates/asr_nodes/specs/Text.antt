@@ -8,7 +8,7 @@ use Rattle.type_rules.specs.declared.constant.Const.TheVariants as constant
 use Rattle.type_rules.specs.declared.ty.Dim.{Dim}
 use Rattle.type_rules.specs.declared.ty.Dim.TheVariants as dim
 use Rattle.type_rules.specs.declared.ty.Len.{Len}
-use Rattle.type_rules.specs.declared.ty.Len.TheVariants as length
+use Rattle.type_rules.specs.declared.ty.Len.TheVariants as len_kind
 use Rattle.asr_nodes.specs.Reading.{Path}
 use Rattle.asr_nodes.specs.declared.node.CaseRange.{CaseRange}
 use Rattle.asr_nodes.specs.declared.node.CaseRange.TheVariants as range
@@ -48,8 +48,8 @@ const_text (constant.LogConst value) = node (codes "LogConst") (decimal value �
 const_text (constant.CharConst bytes) = node (codes "CharConst") (quoted bytes ∷ [])
 
 abbrev pub len_text : Len → Text
-len_text (length.Fixed n) = node (codes "Fixed") (decimal n ∷ [])
-len_text length.Assumed = node (codes "Assumed") []
+len_text (len_kind.Fixed n) = node (codes "Fixed") (decimal n ∷ [])
+len_text len_kind.Assumed = node (codes "Assumed") []
 
 abbrev pub dim_text : Dim → Text
 dim_text (dim.Fixed lower extent) = node (codes "Fixed") (signed_decimal lower ∷ decimal extent ∷ [])

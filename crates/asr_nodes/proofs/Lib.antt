@@ -7,6 +7,7 @@ pub mod Counts
 pub mod ExampleTexts
 pub mod ExampleTrees
 pub mod Grows
+pub mod OnePlace
 pub mod Places
 pub mod PrintItems
 pub mod Pushes

@@ -154,7 +154,7 @@ module _ (a b : Nodes) (h : Sound a) (at : Key) (x : Node at) (here : node_at b 
   }
 
 module _ (a : Nodes) (h : Sound a) (id : ExprId) (x : Expr) (l : HasExpr a id) (apart : avoid a (expr id) (expr_parts x) ≡ true) where
-  expr_elsewhere : (key : Key) → is_other (expr id) key ≡ true → node_at (with_expr_at a id x) key ≡ node_at a key
+  pub expr_elsewhere : (key : Key) → is_other (expr id) key ≡ true → node_at (with_expr_at a id x) key ≡ node_at a key
   expr_elsewhere (expr u) t = get_set_other a.exprs id.0 u.0 x (differs u.0 id.0 t)
   expr_elsewhere (stmt u) t = refl
 
@@ -168,7 +168,7 @@ module _ (a : Nodes) (h : Sound a) (id : ExprId) (x : Expr) (l : HasExpr a id) (
   expr_placed = placed a (with_expr_at a id x) h (expr id) x (get_set a.exprs id.0 x l) expr_elsewhere apart expr_counted refl
 
 module _ (a : Nodes) (h : Sound a) (id : StmtId) (x : Stmt) (l : HasStmt a id) (apart : avoid a (stmt id) (stmt_parts x) ≡ true) where
-  stmt_elsewhere : (key : Key) → is_other (stmt id) key ≡ true → node_at (with_stmt_at a id x) key ≡ node_at a key
+  pub stmt_elsewhere : (key : Key) → is_other (stmt id) key ≡ true → node_at (with_stmt_at a id x) key ≡ node_at a key
   stmt_elsewhere (expr u) t = refl
   stmt_elsewhere (stmt u) t = get_set_other a.stmts id.0 u.0 x (differs u.0 id.0 t)
 

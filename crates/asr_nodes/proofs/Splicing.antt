@@ -34,7 +34,7 @@ get_front [] ys y i e = absurd (cc)
 get_front (z ∷ zs) ys y zero e = e
 get_front (z ∷ zs) ys y (suc i) e = get_front zs ys y i e
 
-get_middle : {A : Type 0} (xs ys : List A) (y : A) → slice_get (xs ++ y ∷ ys) (length xs) ≡ Some y
+pub get_middle : {A : Type 0} (xs ys : List A) (y : A) → slice_get (xs ++ y ∷ ys) (length xs) ≡ Some y
 get_middle [] ys y = refl
 get_middle (x ∷ xs) ys y = get_middle xs ys y
 
@@ -50,21 +50,21 @@ module _ (a : Nodes) (h : Sound a) (at : StmtId) (with : List Stmt) (l : HasStmt
   free : Key → Bool
   free = is_other (stmt at)
 
-  abbrev m : Nodes
+  abbrev pub m : Nodes
   m = record a { stmts = a.stmts ++ with }
 
-  abbrev n : ℕ
+  abbrev pub n : ℕ
   n = node_count a
 
-  holds : Holds (node_at a) (node_at m)
+  pub holds : Holds (node_at a) (node_at m)
   holds (expr id) y e = e
   holds (stmt id) y e = get_front a.stmts with y id.0 e
 
-  grown : n ≤ node_count m
+  pub grown : n ≤ node_count m
   grown = omega (arith, length-append a.stmts with)
 
   -- each new statement's parts are there and avoid the place
-  each_apart : (xs : List Stmt) → list_all (ends parts (is_other (stmt at)) (node_at a) n) (chained (map stmt_parts xs)) ≡ true → AllByRecursion (λ x. list_all (ends parts (is_other (stmt at)) (node_at a) n) (stmt_parts x) ≡ true) xs
+  pub each_apart : (xs : List Stmt) → list_all (ends parts (is_other (stmt at)) (node_at a) n) (chained (map stmt_parts xs)) ≡ true → AllByRecursion (λ x. list_all (ends parts (is_other (stmt at)) (node_at a) n) (stmt_parts x) ≡ true) xs
   each_apart [] e = tt
   each_apart (x ∷ xs) e = (all_first _ (stmt_parts x) _ e, each_apart xs (all_last _ (stmt_parts x) _ e))
 
@@ -89,7 +89,7 @@ module _ (a : Nodes) (h : Sound a) (at : StmtId) (with : List Stmt) (l : HasStmt
   still_there : (key : Key) → is_some (node_at a key) ≡ true → is_some (node_at m key) ≡ true
   still_there key e = let x = some_is (node_at a key) e in ap is_some (holds key x.0 x.1)
 
-  m_sound : Sound m
+  pub m_sound : Sound m
   m_sound = record {
     founded = founded;
     owned = h.owned;
@@ -138,10 +138,10 @@ module _ (a : Nodes) (h : Sound a) (at : StmtId) (with : List Stmt) (l : HasStmt
         joins (z ∷ ys) y zs = ap (λ ws. z ∷ ws) (joins ys y zs)
 
   -- the block at the place
-  abbrev line : ℕ
+  abbrev pub line : ℕ
   line = line_at a at with
 
-  abbrev block : Stmt
+  abbrev pub block : Stmt
   block = s.Block line (stmts_from (length a.stmts) (length with))
 
   all_of : (path : SymId → Path) → (list_all (ends parts (is_other (stmt at)) (node_at m) (node_count m)) (stmts (stmts_from (length a.stmts) (length with))) ≡ true) × (map (stmt_tree m path) (stmts_from (length a.stmts) (length with)) ≡ map (stmt_node (reads a path)) with)
@@ -150,10 +150,10 @@ module _ (a : Nodes) (h : Sound a) (at : StmtId) (with : List Stmt) (l : HasStmt
   no_path : SymId → Path
   no_path id = []
 
-  has : HasStmt m at
+  pub has : HasStmt m at
   has = let e = length-append a.stmts with in omega arith
 
-  block_apart : avoid m (stmt at) (stmt_parts block) ≡ true
+  pub block_apart : avoid m (stmt at) (stmt_parts block) ≡ true
   block_apart = (all_of no_path).0
 
   pub spliced_sound : Sound (spliced a at with)

@@ -2,6 +2,7 @@ pub mod Examples
 pub mod Ids
 pub mod Keys
 pub mod Nodes
+pub mod OnePlace
 pub mod Noted
 pub mod Parts
 pub mod Reading

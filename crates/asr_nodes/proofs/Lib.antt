@@ -11,6 +11,7 @@ pub mod OnePlace
 pub mod Places
 pub mod PrintItems
 pub mod Pushes
+pub mod Removals
 pub mod Replaces
 pub mod Same
 pub mod SampleLemmas

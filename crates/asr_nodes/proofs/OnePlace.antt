@@ -7,7 +7,7 @@ use Rattle.lf_base.specs.declared.id.ExprId.{ExprId}
 use Rattle.lf_base.specs.declared.id.StmtId.{StmtId}
 use Rattle.asr_nodes.specs.Keys.{Key, expr, stmt, stmts, Node, is_other, chained}
 use Rattle.asr_nodes.specs.Nodes.{Nodes, Sound, HasExpr, HasStmt, node_at, node_count, there, avoid, with_expr, with_stmt, with_expr_at, with_stmt_at}
-use Rattle.asr_nodes.specs.OnePlace.{one_where, total, places_node, places_at, places, StandAlone, Fits}
+use Rattle.asr_nodes.specs.OnePlace.{one_where, total, places_node, places_at, places, StandAlone, MayMove}
 use Rattle.asr_nodes.specs.Parts.{parts, expr_parts, stmt_parts}
 use Rattle.asr_nodes.specs.Walks.{passes, ends, made, Holds, tree_within}
 use Rattle.asr_nodes.specs.declared.node.Expr.{Expr}
@@ -218,7 +218,7 @@ module _ (a b : Nodes) (h : Sound a) (k : Sound b) (at : Key) (old x : Node at) 
       let d = ap (λ i. i * places_at b j at) z in
       omega (arith, m, c, d)
 
-  pub edited_alone : (mine others : List Key) → there a mine ≡ true → there a others ≡ true → 0 < places a at mine → StandAlone a mine others → Fits a at (parts at x) mine others → StandAlone b mine others
+  pub edited_alone : (mine others : List Key) → there a mine ≡ true → there a others ≡ true → 0 < places a at mine → StandAlone a mine others → MayMove a at (parts at x) mine others → StandAlone b mine others
   edited_alone mine others t u l s fits = record { once = by }
     where
       one : places a at mine ≡ 1
@@ -271,11 +271,11 @@ module _ (a b : Nodes) (h : Sound a) (k : Sound b) (at : Key) (old x : Node at) 
 
 -- `replace`, `replace_expr` and `splice`
 module _ (a : Nodes) (h : Sound a) (mine others : List Key) (t : there a mine ≡ true) (u : there a others ≡ true) (alone : StandAlone a mine others) where
-  pub replaced_expr_alone : (id : ExprId) (old x : Expr) → node_at a (expr id) ≡ Some old → HasExpr a id → avoid a (expr id) (expr_parts x) ≡ true → 0 < places a (expr id) mine → Fits a (expr id) (expr_parts x) mine others → StandAlone (with_expr_at a id x) mine others
+  pub replaced_expr_alone : (id : ExprId) (old x : Expr) → node_at a (expr id) ≡ Some old → HasExpr a id → avoid a (expr id) (expr_parts x) ≡ true → 0 < places a (expr id) mine → MayMove a (expr id) (expr_parts x) mine others → StandAlone (with_expr_at a id x) mine others
   replaced_expr_alone id old x was l apart g fits =
       edited_alone a (with_expr_at a id x) h (expr_placed_sound a h id x l apart) (expr id) old x was (get_set a.exprs id.0 x l) (expr_elsewhere a h id x l apart) apart mine others t u g alone fits
 
-  pub replaced_stmt_alone : (id : StmtId) (old x : Stmt) → node_at a (stmt id) ≡ Some old → HasStmt a id → avoid a (stmt id) (stmt_parts x) ≡ true → 0 < places a (stmt id) mine → Fits a (stmt id) (stmt_parts x) mine others → StandAlone (with_stmt_at a id x) mine others
+  pub replaced_stmt_alone : (id : StmtId) (old x : Stmt) → node_at a (stmt id) ≡ Some old → HasStmt a id → avoid a (stmt id) (stmt_parts x) ≡ true → 0 < places a (stmt id) mine → MayMove a (stmt id) (stmt_parts x) mine others → StandAlone (with_stmt_at a id x) mine others
   replaced_stmt_alone id old x was l apart g fits =
       edited_alone a (with_stmt_at a id x) h (stmt_placed_sound a h id x l apart) (stmt id) old x was (get_set a.stmts id.0 x l) (stmt_elsewhere a h id x l apart) apart mine others t u g alone fits
 
@@ -354,7 +354,7 @@ module _ (a : Nodes) (h : Sound a) (mine others : List Key) (t : there a mine �
     few (expr j) = let e = no_expr j (length a.stmts) (length with) in omega (arith, e)
     few (stmt j) = at_most_one j (length a.stmts) (length with)
 
-    block_fits : (old : Stmt) → node_at a (stmt at) ≡ Some old → Fits a (stmt at) new_parts mine others → Fits c (stmt at) numbers mine others
+    block_fits : (old : Stmt) → node_at a (stmt at) ≡ Some old → MayMove a (stmt at) new_parts mine others → MayMove c (stmt at) numbers mine others
     block_fits old was fits j g = by (node_at a j) refl
       where
         by : (o : Option (Node j)) → node_at a j ≡ o → (places c j numbers ≡ 1) × (places c j mine ≡ places_at c j (stmt at)) × (places c j others ≡ 0)
@@ -379,7 +379,7 @@ module _ (a : Nodes) (h : Sound a) (mine others : List Key) (t : there a mine �
             let m2 = place_same j old was in
             (omega (arith, b, k, z, g), omega (arith, m0, z0, m2, z2), omega (arith, m1, z1))
 
-    pub spliced_alone : (old : Stmt) → node_at a (stmt at) ≡ Some old → 0 < places a (stmt at) mine → Fits a (stmt at) new_parts mine others → StandAlone (spliced a at with) mine others
+    pub spliced_alone : (old : Stmt) → node_at a (stmt at) ≡ Some old → 0 < places a (stmt at) mine → MayMove a (stmt at) new_parts mine others → StandAlone (spliced a at with) mine others
     spliced_alone old was g fits =
         edited_alone c (spliced a at with) (m_sound a h at with l apart) (spliced_sound a h at with l apart) (stmt at) old (block a h at with l apart)
         (holds a h at with l apart (stmt at) old was)

@@ -41,8 +41,8 @@ module _ (a : Nodes) where
 
   -- What stands below these parts of a new node stands at one place below them, in the trees at `mine` nowhere but below
   -- the node in whose place the new one is put, and in those at `others` nowhere.
-  abbrev pub Fits : Key → List Key → List Key → List Key → Type 0
-  Fits at new mine others = (key : Key) → 0 < places key new → (places key new ≡ 1) × (places key mine ≡ places_at key at) × (places key others ≡ 0)
+  abbrev pub MayMove : Key → List Key → List Key → List Key → Type 0
+  MayMove at new mine others = (key : Key) → 0 < places key new → (places key new ≡ 1) × (places key mine ≡ places_at key at) × (places key others ≡ 0)
 
   -- the expressions and statements that a symbol names, with those of the symbols in its table
   abbrev pub entry_roots : (TableId → List Key) → Option (Entry Symbol) → List Key

@@ -11,6 +11,7 @@ ghost use Rattle.symtab_arena.specs.Scopes.{IsLive, the_root, what_of, owned_by}
 mod ambiguous;
 mod build;
 mod edit;
+mod removal;
 mod splice;
 
 use crate::node::{Expr, Stmt, Symbol};

@@ -2,20 +2,14 @@
 #![tactic(auto)]
 
 #[cfg(test)]
-mod arena;
-#[cfg(test)]
 mod chains;
 #[cfg(test)]
 mod compile;
 #[cfg(test)]
 mod lexical;
 #[cfg(test)]
-mod operations;
-#[cfg(test)]
 mod run;
 #[cfg(test)]
 mod syntax;
 #[cfg(test)]
 mod trees;
-#[cfg(test)]
-mod types;

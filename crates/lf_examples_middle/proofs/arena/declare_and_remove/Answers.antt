@@ -6,7 +6,7 @@ use Rattle.symtab_arena.specs.Changes.{declared_in, owner_declared_in, OwnsNoOwn
 use Rattle.symtab_arena.specs.Links.{Linked}
 use Rattle.symtab_arena.specs.Scopes.{Scopes, table_id, next_symbol, next_table, HasTable, IsLive, names_in}
 use Rattle.symtab_arena.proofs.ChangeLemmas.{opens, childless-declared, childless-owner_declared}
-use Rattle.lf_examples.proofs.arena.declare_and_remove.Goals as goal
+use Rattle.lf_examples_middle.proofs.arena.declare_and_remove.Goals as goal
 
 -- a new scope with one symbol in it has no owner of a table
 new_scope : (a b d : Scopes ℕ) (t table : TableId) (owner : SymId) (scope inner : List ℕ) (place later v w : ℕ)

@@ -4,9 +4,15 @@ pub mod Avoids
 pub mod Begins
 pub mod Callers
 pub mod Counts
+pub mod Chained
+pub mod Entities
 pub mod ExampleTexts
 pub mod ExampleTrees
 pub mod Grows
+pub mod Lengths
+pub mod Missing
+pub mod Nested
+pub mod PathTexts
 pub mod Places
 pub mod PrintItems
 pub mod Pushes

@@ -5,6 +5,7 @@ pub mod Nodes
 pub mod Noted
 pub mod Parts
 pub mod Reading
+pub mod Shapes
 pub mod Splices
 pub mod Symbols
 pub mod Tags

@@ -1,12 +1,12 @@
 -- A chain of `else if` is put link by link, and its closers behind it.
-use Rattle.std.proofs.Common.{◌≡◌, ℕ, suc, ◌+◌, ◌-◌, ◌<◌, ◌≤◌, Bool, List, [], ◌∷◌, ◌++◌, codes, map, length, slice_index_or, replicate, Option, refl, sym, ap, subst, ◌∙◌, arith, append-nil, append_assoc}
+use Rattle.std.proofs.Common.{◌≡◌, ℕ, suc, ◌+◌, ◌-◌, ◌<◌, ◌≤◌, Bool, List, [], ◌∷◌, codes, map, length, slice_index_or, Option, refl, sym, ap, subst, ◌∙◌, arith, append-nil, append_assoc}
 use Rattle.std.specs.Fmt.{decimal}
 use Rattle.lf_base.specs.declared.id.ExprId.{ExprId}
 use Rattle.lf_base.specs.declared.id.StmtId.{StmtId}
 use Rattle.lf_base.specs.Contents.{joined}
 use Rattle.ast_nodes.specs.Node.{opened, behind_blank, listed}
 use Rattle.ast_nodes.specs.Prints.{Ended, Prints, Awaits}
-use Rattle.ast_nodes.proofs.Chains.{prints_more, joined_first, awaits_rest}
+use Rattle.ast_nodes.proofs.Chains.{prints_more, joined_first}
 use Rattle.asr_nodes.specs.Reading.{stmt_node}
 use Rattle.asr_nodes.specs.Shapes.{Shown, closers}
 use Rattle.asr_nodes.specs.Text.{Text, expr_text, stmt_text, stmt_layer}

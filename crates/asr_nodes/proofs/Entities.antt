@@ -1,5 +1,5 @@
 -- The texts of symbols and tables, and the text of a unit.
-use Rattle.std.proofs.Common.{◌≡◌, ℕ, zero, suc, ◌<◌, Bool, true, false, List, [], ◌∷◌, ◌++◌, codes, map, length, slice_get, Option, Some, None, is_some, IfSome, IsTrue, ◌↔◌, refl, sym, ap, subst, ◌∙◌, inl, inr, true≢false}
+use Rattle.std.proofs.Common.{◌≡◌, ℕ, zero, suc, true, false, List, [], ◌∷◌, codes, map, slice_get, Option, Some, None, is_some, IfSome, refl, sym, ap, ◌∙◌, true≢false}
 use Rattle.std.specs.Option.{option_map, option_map_or, option_and_then}
 use Rattle.std.proofs.lemmas.Bool.{ne_eqb}
 use Rattle.std.specs.Fmt.{decimal}
@@ -10,16 +10,16 @@ use Rattle.lf_base.specs.Contents.{joined}
 use Rattle.ast_nodes.specs.Node.{node, listed, optional}
 use Rattle.symtab_arena.specs.Links.{Linked}
 use Rattle.symtab_arena.specs.Names.{Names}
-use Rattle.symtab_arena.specs.Scopes.{IsLive, table_id, symbol_at, names_in, owner_of, owned_by, name_of, what_of}
+use Rattle.symtab_arena.specs.Scopes.{table_id, symbol_at, names_in, owner_of, owned_by, name_of, what_of}
 use Rattle.symtab_arena.specs.declared.table.Symbol.{Symbol as Entry}
 use Rattle.symtab_arena.proofs.CountLemmas.{in_place_stands}
 use Rattle.symtab_arena.proofs.EntryLemmas.{none_some}
 use Rattle.symtab_arena.proofs.LinkLemmas.{some_is}
 use Rattle.asr_nodes.specs.Nodes.{Nodes, Sound, stmt_tree}
 use Rattle.asr_nodes.specs.Shapes.{entity_text, entity_texts, entity_lines}
-use Rattle.asr_nodes.specs.Symbols.{table_in, is_root, is_unit}
+use Rattle.asr_nodes.specs.Symbols.{is_root, is_unit}
 use Rattle.asr_nodes.specs.Text.{Text, path_text, paths_text, stmt_text, symbol_text, symbol_layer, symbol_line, unit_text}
-use Rattle.asr_nodes.specs.Units.{path, symbol_node, each_entry, entries_in, symbol_trees, unit_node, unit_tree, IsUnit, text_of_unit}
+use Rattle.asr_nodes.specs.Units.{path, symbol_node, each_entry, symbol_trees, unit_node, unit_tree, text_of_unit}
 use Rattle.asr_nodes.specs.declared.node.Symbol.{Symbol}
 use Rattle.asr_nodes.specs.declared.node.Symbol.TheVariants as y
 use Rattle.asr_nodes.specs.declared.tree.StmtTree.TheVariants as stmt

@@ -1,5 +1,5 @@
 -- The texts of small trees.
-use Rattle.std.proofs.Common.{◌≡◌, ℕ, pos, List, [], ◌∷◌, ◌++◌, codes, ap, ◌∙◌, None}
+use Rattle.std.proofs.Common.{◌≡◌, ℕ, pos, List, [], ◌∷◌, codes, ap, ◌∙◌, None}
 use Rattle.std.specs.Fmt.{digits, decimal, signed_decimal}
 use Rattle.lf_base.specs.Contents.{joined}
 use Rattle.ast_nodes.specs.Node.{node, behind_blank, listed, optional}

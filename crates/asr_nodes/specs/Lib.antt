@@ -1,4 +1,5 @@
 pub mod Examples
+pub mod Families
 pub mod Ids
 pub mod Keys
 pub mod Nodes

@@ -7,13 +7,15 @@ ghost use Rattle.lf_base.specs.Contents.{Appends, AppendsPart};
 ghost use Rattle.lf_base.specs.Puts.{Puts, Causes};
 ghost use Rattle.asr_nodes.specs.Units.{IsUnit, text_of_unit};
 
+mod expr;
 mod field;
 mod link;
 mod node;
 mod path;
 mod piece;
-mod shape;
+mod stmt;
 mod symbol;
+mod ty;
 mod unit;
 
 use crate::asr::Asr;

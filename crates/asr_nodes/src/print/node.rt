@@ -10,6 +10,7 @@ ghost use Rattle.asr_nodes.specs.Shapes.{shown, shape_text, thing_text, maybe_te
 ghost use Rattle.asr_nodes.specs.Text.{expr_text, stmt_text};
 
 use crate::asr::Asr;
+use crate::print::expr::{expr_shape, no_expr, part_shape, value_shape};
 use crate::print::field::{Field, Group, Shape, Thing};
 use crate::print::link::{next_link, put_closers};
 use crate::print::path::{put_maybe_path, put_path, put_paths};
@@ -17,11 +18,9 @@ use crate::print::piece::{
     Ended, put, put_code, put_line, put_missing, put_number, put_quoted, put_signed, put_tag,
     put_word,
 };
-use crate::print::shape::{
-    case_shape, const_shape, dim_shape, elem_shape, expr_shape, len_shape, no_expr, no_stmt,
-    output_shape, part_shape, range_shape, stmt_shape, ty_shape, value_shape,
-};
+use crate::print::stmt::{case_shape, item_shape, no_stmt, range_shape, stmt_shape};
 use crate::print::symbol::symbol_shape;
+use crate::print::ty::{const_shape, dim_shape, elem_shape, len_shape, ty_shape};
 use lf_base::{ExprId, Sink, StmtId};
 
 fn shape_of_expr(asr: &Asr, id: ExprId) -> Shape<'_>
@@ -52,7 +51,7 @@ fn shape_of<'a>(asr: &'a Asr, thing: Thing<'a>) -> Shape<'a>
         Thing::Stmt(id) => shape_of_stmt(asr, id),
         Thing::Part(part) => part_shape(part),
         Thing::Value(item) => value_shape(item),
-        Thing::Output(item) => output_shape(item),
+        Thing::Output(item) => item_shape(item),
         Thing::Case(case) => case_shape(case),
         Thing::Range(range) => range_shape(range),
         Thing::Const(value) => const_shape(value),

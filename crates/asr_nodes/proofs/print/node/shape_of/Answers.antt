@@ -9,7 +9,7 @@ pub returns-in-Value : goal.returns-in-Value
 returns-in-Value c = c.value_shape.ensures (shown c.args.asr.now) ∙ sym (ap (thing_text (shown c.args.asr.now)) c.in-Value.is)
 
 pub returns-in-Output : goal.returns-in-Output
-returns-in-Output c = c.output_shape.ensures (shown c.args.asr.now) ∙ sym (ap (thing_text (shown c.args.asr.now)) c.in-Output.is)
+returns-in-Output c = c.item_shape.ensures (shown c.args.asr.now) ∙ sym (ap (thing_text (shown c.args.asr.now)) c.in-Output.is)
 
 pub returns-in-Case : goal.returns-in-Case
 returns-in-Case c = c.case_shape.ensures (shown c.args.asr.now) ∙ sym (ap (thing_text (shown c.args.asr.now)) c.in-Case.is)

@@ -1,4 +1,4 @@
-use Rattle.std.proofs.Common.{◌≡◌, false, Some, IfSome, sym, ap, subst, ◌∙◌}
+use Rattle.std.proofs.Common.{◌≡◌, false, Some, IfSome, ap, subst}
 use Rattle.lf_base.specs.Contents.{joined}
 use Rattle.ast_nodes.proofs.Chains.{prints_none, prints_more}
 use Rattle.symtab_arena.specs.Links.{Linked}

@@ -1,4 +1,0 @@
-use Rattle.asr_nodes.proofs.print.shape.ty_shape.Goals as goal
-
-pub returns : goal.returns
-returns c = λ r. c.two.ensures r

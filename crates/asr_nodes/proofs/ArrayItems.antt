@@ -41,10 +41,10 @@ parts-Value value = ap array_item_parts (sym (ai.rolls-Value value)) ∙ fold-ro
 parts-Loop : (number : ℕ) (lower : ℤ) (upper : ℤ) (step : ℤ) (items : List ArrayItem) → array_item_parts (ai.Loop number lower upper step items) ≡ chained (map array_item_parts items)
 parts-Loop number lower upper step items = ap array_item_parts (sym (ai.rolls-Loop number lower upper step items)) ∙ fold-roll-ArrayItem (List Key) parts.array_item_layer (ArrayItem-F.Loop number lower upper step items)
 
-node-Value : (r : Reading) (value : ExprId) → array_item_node r (ai.Value value) ≡ ait.Value (r.expr value)
+pub node-Value : (r : Reading) (value : ExprId) → array_item_node r (ai.Value value) ≡ ait.Value (r.expr value)
 node-Value r value = ap (array_item_node r) (sym (ai.rolls-Value value)) ∙ fold-roll-ArrayItem ArrayItemTree (reading_of.array_item_layer r) (ArrayItem-F.Value value)
 
-node-Loop : (r : Reading) (number : ℕ) (lower : ℤ) (upper : ℤ) (step : ℤ) (items : List ArrayItem) → array_item_node r (ai.Loop number lower upper step items) ≡ ait.Loop number lower upper step (map (array_item_node r) items)
+pub node-Loop : (r : Reading) (number : ℕ) (lower : ℤ) (upper : ℤ) (step : ℤ) (items : List ArrayItem) → array_item_node r (ai.Loop number lower upper step items) ≡ ait.Loop number lower upper step (map (array_item_node r) items)
 node-Loop r number lower upper step items = ap (array_item_node r) (sym (ai.rolls-Loop number lower upper step items)) ∙ fold-roll-ArrayItem ArrayItemTree (reading_of.array_item_layer r) (ArrayItem-F.Loop number lower upper step items)
 
 module _ (path : SymId → Path) (f g : (key : Key) → Tree key) where

@@ -3,11 +3,17 @@ pub mod ArrayItems
 pub mod Avoids
 pub mod Begins
 pub mod Callers
+pub mod Chained
 pub mod Counts
+pub mod Entities
 pub mod ExampleTexts
 pub mod ExampleTrees
 pub mod Grows
+pub mod Lengths
+pub mod Missing
+pub mod Nested
 pub mod OnePlace
+pub mod PathTexts
 pub mod Places
 pub mod PrintItems
 pub mod Pushes

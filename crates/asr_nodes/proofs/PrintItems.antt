@@ -44,7 +44,7 @@ parts-Loop variable lower upper step items = ap print_item_parts (sym (pi.rolls-
 pub node-Value : (r : Reading) (value : ExprId) → print_item_node r (pi.Value value) ≡ pit.Value (r.expr value)
 node-Value r value = ap (print_item_node r) (sym (pi.rolls-Value value)) ∙ fold-roll-PrintItem PrintItemTree (reading_of.print_item_layer r) (PrintItem-F.Value value)
 
-node-Loop : (r : Reading) (variable : ExprId) (lower : ExprId) (upper : ExprId) (step : ExprId) (items : List PrintItem) → print_item_node r (pi.Loop variable lower upper step items) ≡ pit.Loop (r.expr variable) (r.expr lower) (r.expr upper) (r.expr step) (map (print_item_node r) items)
+pub node-Loop : (r : Reading) (variable : ExprId) (lower : ExprId) (upper : ExprId) (step : ExprId) (items : List PrintItem) → print_item_node r (pi.Loop variable lower upper step items) ≡ pit.Loop (r.expr variable) (r.expr lower) (r.expr upper) (r.expr step) (map (print_item_node r) items)
 node-Loop r variable lower upper step items = ap (print_item_node r) (sym (pi.rolls-Loop variable lower upper step items)) ∙ fold-roll-PrintItem PrintItemTree (reading_of.print_item_layer r) (PrintItem-F.Loop variable lower upper step items)
 
 module _ (path : SymId → Path) (f g : (key : Key) → Tree key) where

@@ -1,11 +1,13 @@
 pub mod Examples
+pub mod Families
 pub mod Ids
 pub mod Keys
 pub mod Nodes
-pub mod OnePlace
 pub mod Noted
+pub mod OnePlace
 pub mod Parts
 pub mod Reading
+pub mod Shapes
 pub mod Splices
 pub mod Symbols
 pub mod Tags

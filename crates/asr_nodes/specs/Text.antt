@@ -2,7 +2,7 @@
 use Rattle.std.specs.Prelude.{ℕ, List, [], ◌∷◌, ◌++◌, codes, map, option_map}
 use Rattle.std.specs.Fmt.{decimal, signed_decimal}
 use Rattle.lf_base.specs.Contents.{joined}
-use Rattle.ast_nodes.specs.Node.{quoted, node, listed, optional}
+use Rattle.ast_nodes.specs.Node.{quoted, opened, node, behind_blank, listed, optional}
 use Rattle.type_rules.specs.declared.constant.Const.{Const}
 use Rattle.type_rules.specs.declared.constant.Const.TheVariants as constant
 use Rattle.type_rules.specs.declared.ty.Dim.{Dim}
@@ -167,13 +167,14 @@ symbol_text = fold-SymbolTree Text symbol_layer
 
 -- a line of its own for each symbol of the unit
 abbrev pub symbol_line : SymbolTree → Text
-symbol_line symbol = symbol_text symbol ++ codes "\n"
+symbol_line symbol = joined (symbol_text symbol ∷ codes "\n" ∷ [])
 
--- the head of a unit, its symbols, and what closes it
-abbrev pub unit_lines : Text → List ℕ → List ℕ → List (List ℕ) → List SymbolTree → Text → Text
-unit_lines tag name source deps symbols end =
-    joined (codes "(" ∷ tag ∷ codes " " ∷ name ∷ codes " " ∷ quoted source ∷ codes " " ∷ listed deps ∷ codes " [\n" ∷ joined (map symbol_line symbols) ∷ end ∷ codes ")\n" ∷ [])
+-- the head of a unit
+abbrev pub unit_front : Text → List ℕ → List ℕ → List (List ℕ) → Text
+unit_front tag name source deps = joined (opened tag ∷ behind_blank name ∷ behind_blank (quoted source) ∷ behind_blank (listed deps) ∷ codes " [\n" ∷ [])
 
 abbrev pub unit_text : UnitTree → Text
-unit_text (unit.Program name source deps symbols body) = unit_lines (codes "Program") name source deps symbols (joined (codes "] " ∷ listed (map stmt_text body) ∷ []))
-unit_text (unit.Module name source deps symbols) = unit_lines (codes "Module") name source deps symbols (codes "]")
+unit_text (unit.Program name source deps symbols body) =
+    joined (unit_front (codes "Program") name source deps ∷ joined (map symbol_line symbols) ∷ codes "]" ∷ behind_blank (listed (map stmt_text body)) ∷ codes ")\n" ∷ [])
+unit_text (unit.Module name source deps symbols) =
+    joined (unit_front (codes "Module") name source deps ∷ joined (map symbol_line symbols) ∷ codes "])\n" ∷ [])

@@ -1,6 +1,6 @@
 -- The trees of symbols and units: a scope of its own is the list of its symbols, in the order of their declaration
 -- (ISO/IEC 1539-1:2018, 19.1).
-use Rattle.std.specs.Prelude.{ℕ, zero, suc, List, [], ◌∷◌, map, length, Option, Some, None, option_map}
+use Rattle.std.specs.Prelude.{◌≡◌, ℕ, zero, suc, true, List, [], ◌∷◌, map, length, Option, Some, None, is_some, option_map}
 use Rattle.std.specs.Option.{option_map_or}
 use Rattle.lf_base.specs.declared.id.SymId.{SymId}
 use Rattle.lf_base.specs.declared.id.TableId.{TableId}
@@ -9,6 +9,7 @@ use Rattle.symtab_arena.specs.Scopes.{symbol_at, names_in}
 use Rattle.symtab_arena.specs.declared.table.Symbol.{Symbol as Entry}
 use Rattle.asr_nodes.specs.Nodes.{Nodes, expr_tree, stmt_tree}
 use Rattle.asr_nodes.specs.Reading.{Path, type_node}
+use Rattle.asr_nodes.specs.Text.{Text, unit_text}
 use Rattle.asr_nodes.specs.declared.node.Symbol.{Symbol}
 use Rattle.asr_nodes.specs.declared.node.Symbol.TheVariants as y
 use Rattle.asr_nodes.specs.declared.tree.SymbolTree.{SymbolTree}
@@ -60,3 +61,11 @@ module _ (a : Nodes) where
   -- the unit that a symbol stands for, if it is one
   abbrev pub unit_tree : SymId → Option UnitTree
   unit_tree id = option_map_or (λ e. unit_node e.name e.what) (symbol_at a.scopes id) None
+
+  -- Such a symbol is live, and a main program or a module.
+  abbrev pub IsUnit : SymId → Type 0
+  IsUnit id = is_some (unit_tree id) ≡ true
+
+  -- its text
+  abbrev pub text_of_unit : SymId → Text
+  text_of_unit id = option_map_or unit_text (unit_tree id) []

@@ -1,4 +1,4 @@
-ghost use Rattle.std.specs.Prelude.{◌≡◌, ◌<◌, true, [], ◌∷◌, ◌++◌, length, Some, Ok, IfOk, OnOk, OnErr};
+ghost use Rattle.std.specs.Prelude.{◌≡◌, ◌↔◌, ◌<◌, IsTrue, true, [], ◌∷◌, ◌++◌, length, Some, Ok, IfOk, OnOk, OnErr};
 ghost use Rattle.asr_nodes.specs.Keys.{Key};
 ghost use Rattle.asr_nodes.specs.Keys.{expr, stmt};
 ghost use Rattle.lf_base.specs.declared.id.SymId.{SymId as SymbolId};
@@ -6,6 +6,7 @@ ghost use Rattle.asr_nodes.specs.Nodes.{Sound, Extends, BuildsExpr, BuildsStmt, 
 ghost use Rattle.asr_nodes.specs.Parts.{expr_parts, stmt_parts};
 ghost use Rattle.asr_nodes.specs.Reading.{Path, expr_node, stmt_node};
 ghost use Rattle.asr_nodes.specs.Symbols.{symbol_parts, table_in};
+ghost use Rattle.asr_nodes.specs.Units.{IsUnit};
 ghost use Rattle.symtab_arena.specs.Scopes.{IsLive, the_root, what_of, owned_by};
 
 mod ambiguous;
@@ -109,6 +110,27 @@ impl Asr {
     {
         self.sound();
         self.symbol_there(id)
+    }
+
+    /// Whether a number is that of a live main program or module. It may be any number.
+    pub fn is_unit(&self, id: SymId) -> bool
+        ensures { IsTrue result ↔ IsUnit self.now id }
+    {
+        self.arena.live(id) && self.symbol_there(id).is_unit()
+    }
+
+    /// Whether an expression stands at a number. It may be any number.
+    pub fn has_expr(&self, id: ExprId) -> bool
+        ensures { IsTrue result ↔ HasExpr self.now id }
+    {
+        id.0 < self.exprs.len() as u64
+    }
+
+    /// Whether a statement stands at a number. It may be any number.
+    pub fn has_stmt(&self, id: StmtId) -> bool
+        ensures { IsTrue result ↔ HasStmt self.now id }
+    {
+        id.0 < self.stmts.len() as u64
     }
 
     fn expr_there(&self, id: ExprId) -> &Expr

@@ -6,12 +6,14 @@ pub mod code;
 mod ids;
 pub mod law;
 mod node;
+mod print;
 mod sample;
 mod tree;
 
 pub use asr::Asr;
 pub use ids::ExprIds;
 pub use node::{ArrayItem, Case, CaseRange, Expr, PrintItem, SectionPart, Stmt, Symbol};
+pub use print::print_asr;
 pub use tree::{
     ArrayItemTree, CaseTree, ElemTree, ExprTree, PrintItemTree, SectionPartTree, StmtTree,
     SymbolTree, TypeTree, UnitTree,

@@ -1,7 +1,7 @@
 //! The nodes of the typed tree: symbols, expressions and statements, which name their parts by number.
 ghost use Rattle.std.specs.Prelude.{◌≡◌, is_some};
 ghost use Rattle.asr_nodes.specs.Splices.{line_of};
-ghost use Rattle.asr_nodes.specs.Symbols.{table_in, with_table};
+ghost use Rattle.asr_nodes.specs.Symbols.{is_unit, table_in, with_table};
 
 use crate::ids::ExprIds;
 use lf_base::{ExprId, Name, StmtId, SymId, TableId};
@@ -378,6 +378,13 @@ impl Symbol {
             | Symbol::Struct { .. } => true,
             Symbol::Variable { .. } | Symbol::Generic { .. } | Symbol::External { .. } => false,
         }
+    }
+
+    /// Whether it is a main program or a module.
+    pub(crate) fn is_unit(&self) -> bool
+        ensures { result ≡ is_unit self.now }
+    {
+        matches!(self, Symbol::Program { .. } | Symbol::Module { .. })
     }
 
     /// The same with another table of its own, where it has one.

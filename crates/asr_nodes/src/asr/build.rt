@@ -97,8 +97,9 @@ impl Asr {
     }
 
     /// Puts another node in the place of what a live symbol stands for, and hands the old one back. Its parts are
-    /// there, and it is of the same kind and names the same table, or it is a generic name in place of an entity of
-    /// a module. All trees stay, and every live symbol keeps its path. It takes no memory.
+    /// there, it names the same table of its own or none as the old one, and it is a main program or a module exactly
+    /// where the old one is (ISO/IEC 1539-1:2018, 19.1). All trees stay, and every live symbol keeps its path. It
+    /// takes no memory.
     pub fn replace_symbol(&mut self, id: SymId, with: Symbol) -> Symbol
         requires live { IsLive self.old.scopes id }
         requires like { IfSome (what_of self.old.scopes id) (λ old. IsLike old with) }

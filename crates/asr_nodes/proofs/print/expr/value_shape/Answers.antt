@@ -1,0 +1,12 @@
+use Rattle.std.proofs.Common.{sym, ap, ◌∙◌}
+use Rattle.asr_nodes.specs.Reading.{array_item_node}
+use Rattle.asr_nodes.specs.Text.{array_item_text}
+use Rattle.asr_nodes.proofs.ArrayItems.{node-Value, node-Loop}
+use Rattle.asr_nodes.proofs.Texts.{array_item_text-Value, array_item_text-Loop}
+use Rattle.asr_nodes.proofs.print.expr.value_shape.Goals as goal
+
+pub returns-in-Value : goal.returns-in-Value
+returns-in-Value c = λ r. c.one.ensures r ∙ sym (ap (λ n. array_item_text (array_item_node r.reading n)) c.in-Value.is ∙ ap array_item_text (node-Value r.reading _) ∙ array_item_text-Value _)
+
+pub returns-in-Loop : goal.returns-in-Loop
+returns-in-Loop c = λ r. c.five.ensures r ∙ sym (ap (λ n. array_item_text (array_item_node r.reading n)) c.in-Loop.is ∙ ap array_item_text (node-Loop r.reading _ _ _ _ _) ∙ array_item_text-Loop _ _ _ _ _)

@@ -5,6 +5,8 @@
 #[cfg(test)]
 mod arena;
 #[cfg(test)]
+mod asr;
+#[cfg(test)]
 mod operations;
 #[cfg(test)]
 mod types;

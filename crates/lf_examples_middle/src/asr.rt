@@ -1,0 +1,232 @@
+//! The typed tree: small programs and their texts, edits in place, and trees that are deep.
+ghost use Rattle.std.specs.Prelude.{◌≡◌, [], ◌∷◌, IfOk};
+
+use asr_nodes::{Asr, Expr, ExprIds, PrintItem, Stmt, Symbol, code, print_asr};
+use lf_base::operator::ADD;
+use lf_base::{ExprId, Name, Sink, StmtId, SureSink, SymId, TableId};
+use sqlite_items::Items;
+use std::alloc::Global;
+use std::process::Abort;
+use std::test::Fail;
+use type_rules::{Dim, Elem, Len, Ty};
+
+const ROOT: TableId = TableId(0);
+
+/// How many `else if` a chain has.
+const ARMS: u32 = 10_000;
+
+/// The line of the statement at the end of a chain.
+const STOP_LINE: u32 = ARMS + 1;
+
+/// How deep an expression is.
+const DEPTH: u32 = 4_000;
+
+fn bytes(alloc: Global, text: &[u8]) -> Result<Items<u8>, Fail> {
+    Ok(Items::from_slice(alloc, text)?)
+}
+
+fn one(alloc: Global, id: StmtId) -> Result<Items<StmtId>, Fail>
+    ensures { IfOk result (λ ids. ids ≡ id ∷ []) }
+{
+    let mut ids = Items::new(alloc);
+    ids.push(id)?;
+    Ok(ids)
+}
+
+fn integer(alloc: Global) -> Ty {
+    Ty {
+        elem: Elem::Integer { kind: 4 },
+        dims: Items::new(alloc),
+    }
+}
+
+fn literal(asr: &mut Asr, value: i64) -> Result<ExprId, Fail> {
+    Ok(asr.build_expr(Expr::IntConst { kind: 4, value })?)
+}
+
+fn sum(rt: &impl Abort, asr: &mut Asr, left: ExprId, right: ExprId) -> Result<ExprId, Fail> {
+    assert!(rt; asr.has_expr(left));
+    assert!(rt; asr.has_expr(right));
+    Ok(asr.build_expr(Expr::Binary {
+        operator: ADD,
+        left,
+        right,
+    })?)
+}
+
+fn stop(rt: &impl Abort, asr: &mut Asr, line: u32, code: ExprId) -> Result<StmtId, Fail> {
+    assert!(rt; asr.has_expr(code));
+    Ok(asr.build_stmt(Stmt::Stop {
+        line,
+        error: code::FALSE,
+        code,
+    })?)
+}
+
+/// `if (.true.) then; else REST; end if`
+fn arm(
+    rt: &impl Abort,
+    alloc: Global,
+    asr: &mut Asr,
+    line: u32,
+    rest: StmtId,
+) -> Result<StmtId, Fail> {
+    let condition = asr.build_expr(Expr::LogConst { value: code::TRUE })?;
+    let else_block = one(alloc, rest)?;
+    assert!(rt; asr.has_stmt(rest));
+    assert!(rt; asr.has_expr(condition));
+    Ok(asr.build_stmt(Stmt::If {
+        line,
+        condition,
+        then_block: Items::new(alloc),
+        else_block,
+    })?)
+}
+
+/// Puts `stop VALUE` in the place of a statement.
+fn stop_there(rt: &impl Abort, asr: &mut Asr, at: StmtId, value: i64) -> Result<Stmt, Fail> {
+    let line = STOP_LINE;
+    let code = asr.build_expr(Expr::IntConst { kind: 4, value })?;
+    assert!(rt; asr.has_stmt(at));
+    asr.sound();
+    Ok(asr.replace(
+        at,
+        Stmt::Stop {
+            line,
+            error: code::FALSE,
+            code,
+        },
+    ))
+}
+
+/// Puts a block of `exit` and `stop VALUE` in the place of a statement.
+fn block_there(
+    rt: &impl Abort,
+    alloc: Global,
+    asr: &mut Asr,
+    at: StmtId,
+    value: i64,
+) -> Result<(), Fail> {
+    let line = STOP_LINE;
+    let code = asr.build_expr(Expr::IntConst { kind: 4, value })?;
+    assert!(rt; asr.has_stmt(at));
+    asr.sound();
+    let mut with = Vec::new(alloc);
+    with.push(Stmt::Exit { line, id: 1 })?;
+    with.push(Stmt::Stop {
+        line,
+        error: code::FALSE,
+        code,
+    })?;
+    asr.splice(at, with)?;
+    Ok(())
+}
+
+fn program(rt: &impl Abort, alloc: Global, asr: &mut Asr, stmt: StmtId) -> Result<SymId, Fail> {
+    assert!(rt; asr.has_stmt(stmt));
+    assert!(rt; asr.arena().has_table(ROOT));
+    let name = Name::new(alloc, b"p")?;
+    let unit = Symbol::Program {
+        source: bytes(alloc, b"p.f90")?,
+        deps: Items::new(alloc),
+        table: ROOT,
+        body: one(alloc, stmt)?,
+    };
+    assert_eq!(rt; asr.build_symbol(ROOT, &name, unit), Ok(SymId(0)));
+    Ok(SymId(0))
+}
+
+fn shown(rt: &impl Abort, alloc: Global, asr: &Asr, unit: SymId) -> Result<SureSink, Fail> {
+    assert!(rt; asr.is_unit(unit));
+    let mut sink = SureSink::new(alloc)?;
+    print_asr(asr, unit, &mut sink)?;
+    Ok(sink)
+}
+
+#[test]
+fn small_program_is_shown(rt: HostRuntime) -> Result<(), Fail> {
+    let alloc = rt.alloc();
+    let mut asr = Asr::new(alloc)?;
+    let two = literal(&mut asr, 2)?;
+    let three = literal(&mut asr, 3)?;
+    let five = sum(&rt, &mut asr, two, three)?;
+    let last = stop(&rt, &mut asr, 2, five)?;
+    let unit = program(&rt, alloc, &mut asr, last)?;
+    assert_eq!(&rt;
+        shown(&rt, alloc, &asr, unit)?.bytes(),
+        b"(Program p \"p.f90\" [] [\n] [(Stop 2 0 (Binary 0 (IntConst 4 2) (IntConst 4 3)))])\n".as_slice()
+    );
+    Ok(())
+}
+
+/// The program with this statement at the end of the chain.
+fn chain_text(alloc: Global, last: &[u8]) -> Result<SureSink, Fail> {
+    let mut sink = SureSink::new(alloc)?;
+    sink.put(b"(Program p \"p.f90\" [] [\n] [")?;
+    for line in 1..STOP_LINE {
+        sink.put(b"(If ")?;
+        sink.put(itoa::Buffer::new().format(line).as_bytes())?;
+        sink.put(b" (LogConst 1) [] [")?;
+    }
+    sink.put(last)?;
+    for _ in 0..ARMS {
+        sink.put(b"])")?;
+    }
+    sink.put(b"])\n")?;
+    Ok(sink)
+}
+
+#[test]
+fn long_chain_is_edited_at_its_end(rt: HostRuntime) -> Result<(), Fail> {
+    let alloc = rt.alloc();
+    let mut asr = Asr::new(alloc)?;
+    let seven = literal(&mut asr, 7)?;
+    let end = stop(&rt, &mut asr, STOP_LINE, seven)?;
+    let mut first = end;
+    for place in 0..ARMS {
+        first = arm(&rt, alloc, &mut asr, ARMS - place, first)?;
+    }
+    let unit = program(&rt, alloc, &mut asr, first)?;
+    assert!(&rt;
+        shown(&rt, alloc, &asr, unit)?.bytes()
+            == chain_text(alloc, b"(Stop 10001 0 (IntConst 4 7))")?.bytes()
+    );
+    let _ = stop_there(&rt, &mut asr, end, 8)?;
+    assert!(&rt;
+        shown(&rt, alloc, &asr, unit)?.bytes()
+            == chain_text(alloc, b"(Stop 10001 0 (IntConst 4 8))")?.bytes()
+    );
+    block_there(&rt, alloc, &mut asr, end, 9)?;
+    assert!(&rt;
+        shown(&rt, alloc, &asr, unit)?.bytes()
+            == chain_text(
+                alloc,
+                b"(Block 10001 [(Exit 10001 1) (Stop 10001 0 (IntConst 4 9))])"
+            )?
+            .bytes()
+    );
+    Ok(())
+}
+
+#[test]
+fn deep_expression_is_shown(rt: HostRuntime) -> Result<(), Fail> {
+    let alloc = rt.alloc();
+    let mut asr = Asr::new(alloc)?;
+    let mut expected = SureSink::new(alloc)?;
+    expected.put(b"(Program p \"p.f90\" [] [\n] [(Stop 2 0 ")?;
+    let mut e = literal(&mut asr, 7)?;
+    for _ in 0..DEPTH {
+        assert!(&rt; asr.has_expr(e));
+        e = asr.build_expr(Expr::Paren { inner: e })?;
+        expected.put(b"(Paren ")?;
+    }
+    expected.put(b"(IntConst 4 7)")?;
+    for _ in 0..DEPTH {
+        expected.put(b")")?;
+    }
+    expected.put(b")])\n")?;
+    let end = stop(&rt, &mut asr, 2, e)?;
+    let unit = program(&rt, alloc, &mut asr, end)?;
+    assert!(&rt; shown(&rt, alloc, &asr, unit)?.bytes() == expected.bytes());
+    Ok(())
+}

@@ -152,7 +152,7 @@ module _ (entities : Entities) (n n' : ℕ) (le : n ≤ n') (inner inner' : Call
   abbrev One : Type 0
   One = Pair (Unit {0}) (Unit {0}) (λ a b. Unit {0})
 
-  expr_longer : (y : ExprTree-F One Meants Items One Doings One) → LongerMeant (expr_layer entities n inner (map-ExprTree One Meants Items One Doings One (Unit {0}) Meant (PrintItem entities n inner) (Unit {0}) (List ℕ → Doing) (Unit {0}) (λ x. x.0) (λ x. x.0) (λ x. x.0) (λ x. x.0) (λ x. x.0) (λ x. x.0) y)) (expr_layer entities n' inner' (map-ExprTree One Meants Items One Doings One (Unit {0}) Meant (PrintItem entities n' inner') (Unit {0}) (List ℕ → Doing) (Unit {0}) (λ x. x.1) (λ x. x.1) (λ x. x.1) (λ x. x.1) (λ x. x.1) (λ x. x.1) y))
+  expr_longer : (y : ExprTree-F One Meants Items One Doings One) → LongerMeant (expr_layer entities n inner (map-ExprTree One Meants Items One Doings One (Unit {0}) Meant PrintItem (Unit {0}) (List ℕ → Doing) (Unit {0}) (λ x. x.0) (λ x. x.0) (λ x. x.0) (λ x. x.0) (λ x. x.0) (λ x. x.0) y)) (expr_layer entities n' inner' (map-ExprTree One Meants Items One Doings One (Unit {0}) Meant PrintItem (Unit {0}) (List ℕ → Doing) (Unit {0}) (λ x. x.1) (λ x. x.1) (λ x. x.1) (λ x. x.1) (λ x. x.1) (λ x. x.1) y))
   expr_longer (ExprTree-F.IntConst kind value) = value_longer _ _ (λ here. give_longer Value _)
   expr_longer (ExprTree-F.LogConst value) = value_longer _ _ (λ here. give_longer Value _)
   expr_longer (ExprTree-F.Var symbol) = variable_meant_longer symbol
@@ -177,24 +177,24 @@ module _ (entities : Entities) (n n' : ℕ) (le : n ≤ n') (inner inner' : Call
   expr_longer (ExprTree-F.SecLen lower upper step low high) = no_rule_longer
   expr_longer (ExprTree-F.Arr number element extents) = no_rule_longer
 
-  item_longer_layer : (y : PrintItemTree-F One Meants Items One Doings One) → LongerItem (item_layer entities n inner (map-PrintItemTree One Meants Items One Doings One (Unit {0}) Meant (PrintItem entities n inner) (Unit {0}) (List ℕ → Doing) (Unit {0}) (λ x. x.0) (λ x. x.0) (λ x. x.0) (λ x. x.0) (λ x. x.0) (λ x. x.0) y)) (item_layer entities n' inner' (map-PrintItemTree One Meants Items One Doings One (Unit {0}) Meant (PrintItem entities n' inner') (Unit {0}) (List ℕ → Doing) (Unit {0}) (λ x. x.1) (λ x. x.1) (λ x. x.1) (λ x. x.1) (λ x. x.1) (λ x. x.1) y))
+  item_longer_layer : (y : PrintItemTree-F One Meants Items One Doings One) → LongerItem (item_layer (map-PrintItemTree One Meants Items One Doings One (Unit {0}) Meant PrintItem (Unit {0}) (List ℕ → Doing) (Unit {0}) (λ x. x.0) (λ x. x.0) (λ x. x.0) (λ x. x.0) (λ x. x.0) (λ x. x.0) y)) (item_layer (map-PrintItemTree One Meants Items One Doings One (Unit {0}) Meant PrintItem (Unit {0}) (List ℕ → Doing) (Unit {0}) (λ x. x.1) (λ x. x.1) (λ x. x.1) (λ x. x.1) (λ x. x.1) (λ x. x.1) y))
   item_longer_layer (PrintItemTree-F.«PrintItemTree::Value» value) = value.2.value
   item_longer_layer (PrintItemTree-F.«PrintItemTree::Loop» variable lower upper step items) = tt
 
-  turn_longer : (id : ℕ) (body body' : Doing) → Longer (Option Signal) body body' → Longer (Option Signal) (turn_of entities n inner id body) (turn_of entities n' inner' id body')
-  turn_longer id body body' k = bind_longer (Option Signal) (Option Signal) body body' _ _ k (landing_longer Signal (cycles entities n inner id))
+  turn_longer : (id : ℕ) (body body' : Doing) → Longer (Option Signal) body body' → Longer (Option Signal) (turn_of id body) (turn_of id body')
+  turn_longer id body body' k = bind_longer (Option Signal) (Option Signal) body body' _ _ k (landing_longer Signal (cycles id))
 
-  choose_longer : (a b a' b' : Doing) → Longer (Option Signal) a a' → Longer (Option Signal) b b' → (t : Bool) → Longer (Option Signal) (choose entities n inner a b t) (choose entities n' inner' a' b' t)
+  choose_longer : (a b a' b' : Doing) → Longer (Option Signal) a a' → Longer (Option Signal) b b' → (t : Bool) → Longer (Option Signal) (choose a b t) (choose a' b' t)
   choose_longer a b a' b' k l true = k
   choose_longer a b a' b' k l false = l
 
-  stepped_longer : (here : Location) (b : Binding) (step : ℤ) → Longer (Unit {0}) (stepped entities n inner here b step) (stepped entities n' inner' here b step)
+  stepped_longer : (here : Location) (b : Binding) (step : ℤ) → Longer (Unit {0}) (stepped here b step) (stepped here b step)
   stepped_longer here b step =
       bind_longer Value (Unit {0}) (fetch b) (fetch b) _ _ (fetch_longer b)
       (λ v. bind_longer ℤ (Unit {0}) (stuck (integer4_of v)) (stuck (integer4_of v)) _ _ (stuck_longer ℤ (integer4_of v))
       (λ z. bind_longer Value (Unit {0}) (result here (single (fitted 4 (Ok (z +ℤ step))))) (result here (single (fitted 4 (Ok (z +ℤ step))))) (assign b) (assign b) (result_longer Value here (single (fitted 4 (Ok (z +ℤ step))))) (assign_longer b)))
 
-  step_longer : (here : Location) (b : Binding) (step : ℤ) (o : Option Signal) → Longer (Option Signal) (then_step entities n inner here b step o) (then_step entities n' inner' here b step o)
+  step_longer : (here : Location) (b : Binding) (step : ℤ) (o : Option Signal) → Longer (Option Signal) (then_step here b step o) (then_step here b step o)
   step_longer here b step None = next_step _ _ (stepped_longer here b step)
   step_longer here b step (Some signal) = give_longer (Option Signal) (Some signal)
 
@@ -203,7 +203,7 @@ module _ (entities : Entities) (n n' : ℕ) (le : n ≤ n') (inner inner' : Call
       bind_longer (Unit {0}) (Option Signal) (assign b _) (assign b _) _ _ (assign_longer b _)
       (λ u. bind_longer (Option Signal) (Option Signal) _ _ _ _
       (counted_longer Signal count n n' le _ _ (bind_longer (Option Signal) (Option Signal) _ _ _ _ (turn_longer id body body' k) (step_longer here b step)))
-      (landing_longer Signal (exits entities n inner id)))
+      (landing_longer Signal (exits id)))
 
   do_longer : (here : Location) (id : ℕ) (variable lower upper step : Meants) (body body' : Doing) → Longer (Option Signal) body body' → Longer (Option Signal) (do_loop entities n inner here id variable.0 lower.0 upper.0 step.0 body) (do_loop entities n' inner' here id variable.1 lower.1 upper.1 step.1 body')
   do_longer here id variable lower upper step body body' k =
@@ -215,9 +215,9 @@ module _ (entities : Entities) (n n' : ℕ) (le : n ≤ n') (inner inner' : Call
 
   while_longer : (here : Location) (id : ℕ) (condition : Meants) (body body' : Doing) → Longer (Option Signal) body body' → Longer (Option Signal) (while_loop entities n inner here id condition.0 body) (while_loop entities n' inner' here id condition.1 body')
   while_longer here id condition body body' k =
-      bind_longer (Option Signal) (Option Signal) _ _ _ _ (iterate_longer Signal n n' le _ _ _ _ (tested_longer condition here) (turn_longer id body body' k)) (landing_longer Signal (exits entities n inner id))
+      bind_longer (Option Signal) (Option Signal) _ _ _ _ (iterate_longer Signal n n' le _ _ _ _ (tested_longer condition here) (turn_longer id body body' k)) (landing_longer Signal (exits id))
 
-  puts_longer : (here : Location) (last : Last) (xs : List Items) → Longer (Unit {0}) (put_each entities n inner here last (map (λ x. x.0) xs)) (put_each entities n' inner' here last (map (λ x. x.1) xs))
+  puts_longer : (here : Location) (last : Last) (xs : List Items) → Longer (Unit {0}) (put_each here last (map (λ x. x.0) xs)) (put_each here last (map (λ x. x.1) xs))
   puts_longer here last [] = give_longer (Unit {0}) tt
   puts_longer here last ((None, None, k) ∷ xs) = wrong_longer (Unit {0})
   puts_longer here last ((None, Some w, k) ∷ xs) = absurd k
@@ -226,7 +226,7 @@ module _ (entities : Entities) (n n' : ℕ) (le : n ≤ n') (inner inner' : Call
       bind_longer Value (Unit {0}) (v here) (w here) _ _ (k here) (λ x.
       bind_longer Last (Unit {0}) (put_item last x) (put_item last x) _ _ (item_longer last x) (λ next. puts_longer here next xs))
 
-  digits_longer : (here : Location) (advance : ℕ) (xs : List Items) → Longer (Unit {0}) (print_digits entities n inner here advance (map (λ x. x.0) xs)) (print_digits entities n' inner' here advance (map (λ x. x.1) xs))
+  digits_longer : (here : Location) (advance : ℕ) (xs : List Items) → Longer (Unit {0}) (print_digits here advance (map (λ x. x.0) xs)) (print_digits here advance (map (λ x. x.1) xs))
   digits_longer here advance [] = wrong_longer (Unit {0})
   digits_longer here advance ((None, None, k) ∷ []) = wrong_longer (Unit {0})
   digits_longer here advance ((None, Some w, k) ∷ []) = absurd k
@@ -240,56 +240,56 @@ module _ (entities : Entities) (n n' : ℕ) (le : n ≤ n') (inner inner' : Call
   digits_longer here advance ((Some v, None, k) ∷ y ∷ xs) = absurd k
   digits_longer here advance ((Some v, Some w, k) ∷ y ∷ xs) = wrong_longer (Unit {0})
 
-  list_longer : (here : Location) (xs : List Items) → Longer (Unit {0}) (print_list entities n inner here (map (λ x. x.0) xs)) (print_list entities n' inner' here (map (λ x. x.1) xs))
+  list_longer : (here : Location) (xs : List Items) → Longer (Unit {0}) (print_list here (map (λ x. x.0) xs)) (print_list here (map (λ x. x.1) xs))
   list_longer here xs =
       bind_longer (Unit {0}) (Unit {0}) begin_record begin_record _ _ (print_longer (codes " ")) (λ u.
       bind_longer (Unit {0}) (Unit {0}) _ _ _ _ (puts_longer here Nothing xs) (λ w. end_longer))
 
-  items_longer : (here : Location) (form advance : ℕ) (xs : List Items) → Longer (Unit {0}) (print_items entities n inner here form advance (map (λ x. x.0) xs)) (print_items entities n' inner' here form advance (map (λ x. x.1) xs))
+  items_longer : (here : Location) (form advance : ℕ) (xs : List Items) → Longer (Unit {0}) (print_items here form advance (map (λ x. x.0) xs)) (print_items here form advance (map (λ x. x.1) xs))
   items_longer here form advance xs = by (form == FORMAT_LIST) (form == FORMAT_INTEGER)
     where
-      by : (s t : Bool) → Longer (Unit {0}) (if s then print_list entities n inner here (map (λ x. x.0) xs) else if t then print_digits entities n inner here advance (map (λ x. x.0) xs) else wrong Stuck) (if s then print_list entities n' inner' here (map (λ x. x.1) xs) else if t then print_digits entities n' inner' here advance (map (λ x. x.1) xs) else wrong Stuck)
+      by : (s t : Bool) → Longer (Unit {0}) (if s then print_list here (map (λ x. x.0) xs) else if t then print_digits here advance (map (λ x. x.0) xs) else wrong Stuck) (if s then print_list here (map (λ x. x.1) xs) else if t then print_digits here advance (map (λ x. x.1) xs) else wrong Stuck)
       by true t = list_longer here xs
       by false true = digits_longer here advance xs
       by false false = wrong_longer (Unit {0})
 
-  no_value_longer : (o : Option Value) → Longer (Unit {0}) (no_value entities n inner o) (no_value entities n' inner' o)
+  no_value_longer : (o : Option Value) → Longer (Unit {0}) (no_value o) (no_value o)
   no_value_longer None = give_longer (Unit {0}) tt
   no_value_longer (Some value) = wrong_longer (Unit {0})
 
-  stops_longer : (here : Location) (x : Meants) → Longer (Option Signal) (stops entities n inner here x.0) (stops entities n' inner' here x.1)
+  stops_longer : (here : Location) (x : Meants) → Longer (Option Signal) (stops here x.0) (stops here x.1)
   stops_longer here x =
       bind_longer Value (Option Signal) (x.0.value here) (x.1.value here) _ _ (x.2.value here) (λ v.
-      bind_longer ℤ (Option Signal) (stuck (integer_of v)) (stuck (integer_of v)) _ _ (stuck_longer ℤ (integer_of v)) (λ z. stop_longer (Option Signal) (status_of entities n inner z)))
+      bind_longer ℤ (Option Signal) (stuck (integer_of v)) (stuck (integer_of v)) _ _ (stuck_longer ℤ (integer_of v)) (λ z. stop_longer (Option Signal) (status_of z)))
 
-  assigns_longer : (here : Location) (x y : Meants) → Longer (Unit {0}) (assigns entities n inner here x.0 y.0) (assigns entities n' inner' here x.1 y.1)
+  assigns_longer : (here : Location) (x y : Meants) → Longer (Unit {0}) (assigns here x.0 y.0) (assigns here x.1 y.1)
   assigns_longer here x y =
       bind_longer Value (Unit {0}) (y.0.value here) (y.1.value here) _ _ (y.2.value here) (λ v.
       bind_longer Binding (Unit {0}) (x.0.place here) (x.1.place here) (λ b. assign b v) (λ b. assign b v) (x.2.place here) (λ b. assign_longer b v))
 
-  put_longer : (here : Location) (number : ℕ) (x : Meants) → Longer (Unit {0}) (puts entities n inner here number x.0) (puts entities n' inner' here number x.1)
+  put_longer : (here : Location) (number : ℕ) (x : Meants) → Longer (Unit {0}) (puts here number x.0) (puts here number x.1)
   put_longer here number x =
       bind_longer Value (Unit {0}) (x.0.value here) (x.1.value here) _ _ (x.2.value here) (λ v.
       bind_longer Last (Unit {0}) (temporary_last number) (temporary_last number) _ _ (last_longer number) (λ last.
       bind_longer Last (Unit {0}) (put_item last v) (put_item last v) _ _ (item_longer last v) (λ next. change_longer (set number (Recording next)))))
 
-  stmt_longer : (y : StmtTree-F One Meants Items One Doings One) → LongerDoing (stmt_layer entities n inner (map-StmtTree One Meants Items One Doings One (Unit {0}) Meant (PrintItem entities n inner) (Unit {0}) (List ℕ → Doing) (Unit {0}) (λ x. x.0) (λ x. x.0) (λ x. x.0) (λ x. x.0) (λ x. x.0) (λ x. x.0) y)) (stmt_layer entities n' inner' (map-StmtTree One Meants Items One Doings One (Unit {0}) Meant (PrintItem entities n' inner') (Unit {0}) (List ℕ → Doing) (Unit {0}) (λ x. x.1) (λ x. x.1) (λ x. x.1) (λ x. x.1) (λ x. x.1) (λ x. x.1) y))
-  stmt_longer (StmtTree-F.Assign line target value) source = next_step _ _ (assigns_longer (at entities n inner source line) target value)
+  stmt_longer : (y : StmtTree-F One Meants Items One Doings One) → LongerDoing (stmt_layer entities n inner (map-StmtTree One Meants Items One Doings One (Unit {0}) Meant PrintItem (Unit {0}) (List ℕ → Doing) (Unit {0}) (λ x. x.0) (λ x. x.0) (λ x. x.0) (λ x. x.0) (λ x. x.0) (λ x. x.0) y)) (stmt_layer entities n' inner' (map-StmtTree One Meants Items One Doings One (Unit {0}) Meant PrintItem (Unit {0}) (List ℕ → Doing) (Unit {0}) (λ x. x.1) (λ x. x.1) (λ x. x.1) (λ x. x.1) (λ x. x.1) (λ x. x.1) y))
+  stmt_longer (StmtTree-F.Assign line target value) source = next_step _ _ (assigns_longer (at source line) target value)
   stmt_longer (StmtTree-F.If line condition then_block else_block) source =
-      bind_longer Bool (Option Signal) _ _ _ _ (tested_longer condition (at entities n inner source line))
+      bind_longer Bool (Option Signal) _ _ _ _ (tested_longer condition (at source line))
       (choose_longer (statements source (map (λ x. x.0) then_block)) (statements source (map (λ x. x.0) else_block)) (statements source (map (λ x. x.1) then_block)) (statements source (map (λ x. x.1) else_block)) (statements_longer source then_block) (statements_longer source else_block))
-  stmt_longer (StmtTree-F.Do line id variable lower upper step body) source = do_longer (at entities n inner source line) id variable lower upper step _ _ (statements_longer source body)
-  stmt_longer (StmtTree-F.While line id condition body) source = while_longer (at entities n inner source line) id condition _ _ (statements_longer source body)
+  stmt_longer (StmtTree-F.Do line id variable lower upper step body) source = do_longer (at source line) id variable lower upper step _ _ (statements_longer source body)
+  stmt_longer (StmtTree-F.While line id condition body) source = while_longer (at source line) id condition _ _ (statements_longer source body)
   stmt_longer (StmtTree-F.Exit line id) source = give_longer (Option Signal) (Some (Exits id))
   stmt_longer (StmtTree-F.Cycle line id) source = give_longer (Option Signal) (Some (Cycles id))
-  stmt_longer (StmtTree-F.Call line callee arguments) source = next_step _ _ (bind_longer (Option Value) (Unit {0}) _ _ _ _ (called_longer callee arguments (at entities n inner source line)) no_value_longer)
-  stmt_longer (StmtTree-F.Print line form advance items) source = next_step _ _ (items_longer (at entities n inner source line) form advance items)
-  stmt_longer (StmtTree-F.Stop line error code) source = stops_longer (at entities n inner source line) code
+  stmt_longer (StmtTree-F.Call line callee arguments) source = next_step _ _ (bind_longer (Option Value) (Unit {0}) _ _ _ _ (called_longer callee arguments (at source line)) no_value_longer)
+  stmt_longer (StmtTree-F.Print line form advance items) source = next_step _ _ (items_longer (at source line) form advance items)
+  stmt_longer (StmtTree-F.Stop line error code) source = stops_longer (at source line) code
   stmt_longer (StmtTree-F.Return line) source = give_longer (Option Signal) _
   stmt_longer (StmtTree-F.Block line stmts) source = statements_longer source stmts
-  stmt_longer (StmtTree-F.Let line number value) source = next_step _ _ (bind_longer Value (Unit {0}) _ _ _ _ (value.2.value (at entities n inner source line)) (λ v. change_longer (set number (Holding v))))
+  stmt_longer (StmtTree-F.Let line number value) source = next_step _ _ (bind_longer Value (Unit {0}) _ _ _ _ (value.2.value (at source line)) (λ v. change_longer (set number (Holding v))))
   stmt_longer (StmtTree-F.Begin line number) source = next_step _ _ (bind_longer (Unit {0}) (Unit {0}) _ _ _ _ (change_longer (set number (Recording Nothing))) (λ u. print_longer (codes " ")))
-  stmt_longer (StmtTree-F.Put line number value) source = next_step _ _ (put_longer (at entities n inner source line) number value)
+  stmt_longer (StmtTree-F.Put line number value) source = next_step _ _ (put_longer (at source line) number value)
   stmt_longer (StmtTree-F.End line) source = next_step _ _ end_longer
   stmt_longer (StmtTree-F.Select line value cases default) source = wrong_longer (Option Signal)
   stmt_longer (StmtTree-F.Read line target iostat) source = wrong_longer (Option Signal)
@@ -300,10 +300,10 @@ module _ (entities : Entities) (n n' : ℕ) (le : n ≤ n') (inner inner' : Call
 
   pub statement_longer : (s : StmtTree) → LongerDoing (statement entities n inner s) (statement entities n' inner' s)
   statement_longer =
-      related_stmt (Unit {0}) Meant (PrintItem entities n inner) (Unit {0}) (List ℕ → Doing) (Unit {0}) (Unit {0}) Meant (PrintItem entities n' inner') (Unit {0}) (List ℕ → Doing) (Unit {0})
+      related_stmt (Unit {0}) Meant PrintItem (Unit {0}) (List ℕ → Doing) (Unit {0}) (Unit {0}) Meant PrintItem (Unit {0}) (List ℕ → Doing) (Unit {0})
       (λ a b. Unit {0}) LongerMeant LongerItem (λ a b. Unit {0}) LongerDoing (λ a b. Unit {0})
-      (nothing entities n inner) (expr_layer entities n inner) (item_layer entities n inner) (nothing entities n inner) (stmt_layer entities n inner) (nothing entities n inner)
-      (nothing entities n' inner') (expr_layer entities n' inner') (item_layer entities n' inner') (nothing entities n' inner') (stmt_layer entities n' inner') (nothing entities n' inner')
+      nothing (expr_layer entities n inner) item_layer nothing (stmt_layer entities n inner) nothing
+      nothing (expr_layer entities n' inner') item_layer nothing (stmt_layer entities n' inner') nothing
       (record { of_array_item = λ y. tt; of_expr = expr_longer; of_print_item = item_longer_layer; of_section_part = λ y. tt; of_stmt = stmt_longer; of_case = λ y. tt })
 
   pub block_longer : (source : List ℕ) (body : List StmtTree) → Longer (Option Signal) (block entities n inner source body) (block entities n' inner' source body)

@@ -1,6 +1,6 @@
-mod Larger
-mod Longer
-mod Monotone
+pub mod Larger
+pub mod Longer
+pub mod Monotone
 pub mod Nodes
 pub mod Related
-mod Runs
+pub mod Runs

@@ -19,92 +19,92 @@ use Rattle.asr_semantics.specs.Meaning.{Meant, Doing, Calls, PrintItem, nothing,
 use Rattle.asr_semantics.specs.Program.{constant_of, constant_layer, no_part}
 
 module _ (entities : Entities) (n : ℕ) (deeper : Calls) where
-  abbrev pub item : PrintItemTree → PrintItem entities n deeper
-  item = fold-PrintItemTree (Unit {0}) Meant (PrintItem entities n deeper) (Unit {0}) (List ℕ → Doing) (Unit {0}) (nothing entities n deeper) (expr_layer entities n deeper) (item_layer entities n deeper) (nothing entities n deeper) (stmt_layer entities n deeper) (nothing entities n deeper)
+  abbrev pub item : PrintItemTree → PrintItem
+  item = fold-PrintItemTree (Unit {0}) Meant PrintItem (Unit {0}) (List ℕ → Doing) (Unit {0}) nothing (expr_layer entities n deeper) item_layer nothing (stmt_layer entities n deeper) nothing
 
   pub expression-IntConst : (kind : ℕ) (value : ℤ) → expression entities n deeper (expr_shape.IntConst kind value) ≡ expr_layer entities n deeper (ExprTree-F.IntConst kind value)
-  expression-IntConst kind value = fold_expr-IntConst (Unit {0}) Meant (PrintItem entities n deeper) (Unit {0}) (List ℕ → Doing) (Unit {0}) (nothing entities n deeper) (expr_layer entities n deeper) (item_layer entities n deeper) (nothing entities n deeper) (stmt_layer entities n deeper) (nothing entities n deeper) kind value
+  expression-IntConst kind value = fold_expr-IntConst (Unit {0}) Meant PrintItem (Unit {0}) (List ℕ → Doing) (Unit {0}) nothing (expr_layer entities n deeper) item_layer nothing (stmt_layer entities n deeper) nothing kind value
 
   pub expression-LogConst : (value : ℕ) → expression entities n deeper (expr_shape.LogConst value) ≡ expr_layer entities n deeper (ExprTree-F.LogConst value)
-  expression-LogConst value = fold_expr-LogConst (Unit {0}) Meant (PrintItem entities n deeper) (Unit {0}) (List ℕ → Doing) (Unit {0}) (nothing entities n deeper) (expr_layer entities n deeper) (item_layer entities n deeper) (nothing entities n deeper) (stmt_layer entities n deeper) (nothing entities n deeper) value
+  expression-LogConst value = fold_expr-LogConst (Unit {0}) Meant PrintItem (Unit {0}) (List ℕ → Doing) (Unit {0}) nothing (expr_layer entities n deeper) item_layer nothing (stmt_layer entities n deeper) nothing value
 
   pub expression-Var : (symbol : List (List ℕ)) → expression entities n deeper (expr_shape.Var symbol) ≡ expr_layer entities n deeper (ExprTree-F.Var symbol)
-  expression-Var symbol = fold_expr-Var (Unit {0}) Meant (PrintItem entities n deeper) (Unit {0}) (List ℕ → Doing) (Unit {0}) (nothing entities n deeper) (expr_layer entities n deeper) (item_layer entities n deeper) (nothing entities n deeper) (stmt_layer entities n deeper) (nothing entities n deeper) symbol
+  expression-Var symbol = fold_expr-Var (Unit {0}) Meant PrintItem (Unit {0}) (List ℕ → Doing) (Unit {0}) nothing (expr_layer entities n deeper) item_layer nothing (stmt_layer entities n deeper) nothing symbol
 
   pub expression-Unary : (operator : ℕ) (operand : ExprTree) → expression entities n deeper (expr_shape.Unary operator operand) ≡ expr_layer entities n deeper (ExprTree-F.Unary operator (expression entities n deeper operand))
-  expression-Unary operator operand = fold_expr-Unary (Unit {0}) Meant (PrintItem entities n deeper) (Unit {0}) (List ℕ → Doing) (Unit {0}) (nothing entities n deeper) (expr_layer entities n deeper) (item_layer entities n deeper) (nothing entities n deeper) (stmt_layer entities n deeper) (nothing entities n deeper) operator operand
+  expression-Unary operator operand = fold_expr-Unary (Unit {0}) Meant PrintItem (Unit {0}) (List ℕ → Doing) (Unit {0}) nothing (expr_layer entities n deeper) item_layer nothing (stmt_layer entities n deeper) nothing operator operand
 
   pub expression-Binary : (operator : ℕ) (left : ExprTree) (right : ExprTree) → expression entities n deeper (expr_shape.Binary operator left right) ≡ expr_layer entities n deeper (ExprTree-F.Binary operator (expression entities n deeper left) (expression entities n deeper right))
-  expression-Binary operator left right = fold_expr-Binary (Unit {0}) Meant (PrintItem entities n deeper) (Unit {0}) (List ℕ → Doing) (Unit {0}) (nothing entities n deeper) (expr_layer entities n deeper) (item_layer entities n deeper) (nothing entities n deeper) (stmt_layer entities n deeper) (nothing entities n deeper) operator left right
+  expression-Binary operator left right = fold_expr-Binary (Unit {0}) Meant PrintItem (Unit {0}) (List ℕ → Doing) (Unit {0}) nothing (expr_layer entities n deeper) item_layer nothing (stmt_layer entities n deeper) nothing operator left right
 
   pub expression-Convert : (kind : ℕ) (operand : ExprTree) → expression entities n deeper (expr_shape.Convert kind operand) ≡ expr_layer entities n deeper (ExprTree-F.Convert kind (expression entities n deeper operand))
-  expression-Convert kind operand = fold_expr-Convert (Unit {0}) Meant (PrintItem entities n deeper) (Unit {0}) (List ℕ → Doing) (Unit {0}) (nothing entities n deeper) (expr_layer entities n deeper) (item_layer entities n deeper) (nothing entities n deeper) (stmt_layer entities n deeper) (nothing entities n deeper) kind operand
+  expression-Convert kind operand = fold_expr-Convert (Unit {0}) Meant PrintItem (Unit {0}) (List ℕ → Doing) (Unit {0}) nothing (expr_layer entities n deeper) item_layer nothing (stmt_layer entities n deeper) nothing kind operand
 
   pub expression-Paren : (inner : ExprTree) → expression entities n deeper (expr_shape.Paren inner) ≡ expr_layer entities n deeper (ExprTree-F.Paren (expression entities n deeper inner))
-  expression-Paren inner = fold_expr-Paren (Unit {0}) Meant (PrintItem entities n deeper) (Unit {0}) (List ℕ → Doing) (Unit {0}) (nothing entities n deeper) (expr_layer entities n deeper) (item_layer entities n deeper) (nothing entities n deeper) (stmt_layer entities n deeper) (nothing entities n deeper) inner
+  expression-Paren inner = fold_expr-Paren (Unit {0}) Meant PrintItem (Unit {0}) (List ℕ → Doing) (Unit {0}) nothing (expr_layer entities n deeper) item_layer nothing (stmt_layer entities n deeper) nothing inner
 
   pub expression-Invoke : (callee : List (List ℕ)) (arguments : List ExprTree) → expression entities n deeper (expr_shape.Invoke callee arguments) ≡ expr_layer entities n deeper (ExprTree-F.Invoke callee (map (expression entities n deeper) arguments))
-  expression-Invoke callee arguments = fold_expr-Invoke (Unit {0}) Meant (PrintItem entities n deeper) (Unit {0}) (List ℕ → Doing) (Unit {0}) (nothing entities n deeper) (expr_layer entities n deeper) (item_layer entities n deeper) (nothing entities n deeper) (stmt_layer entities n deeper) (nothing entities n deeper) callee arguments
+  expression-Invoke callee arguments = fold_expr-Invoke (Unit {0}) Meant PrintItem (Unit {0}) (List ℕ → Doing) (Unit {0}) nothing (expr_layer entities n deeper) item_layer nothing (stmt_layer entities n deeper) nothing callee arguments
 
   pub expression-Intrinsic : (code : ℕ) (arguments : List ExprTree) → expression entities n deeper (expr_shape.Intrinsic code arguments) ≡ expr_layer entities n deeper (ExprTree-F.Intrinsic code (map (expression entities n deeper) arguments))
-  expression-Intrinsic code arguments = fold_expr-Intrinsic (Unit {0}) Meant (PrintItem entities n deeper) (Unit {0}) (List ℕ → Doing) (Unit {0}) (nothing entities n deeper) (expr_layer entities n deeper) (item_layer entities n deeper) (nothing entities n deeper) (stmt_layer entities n deeper) (nothing entities n deeper) code arguments
+  expression-Intrinsic code arguments = fold_expr-Intrinsic (Unit {0}) Meant PrintItem (Unit {0}) (List ℕ → Doing) (Unit {0}) nothing (expr_layer entities n deeper) item_layer nothing (stmt_layer entities n deeper) nothing code arguments
 
   pub expression-Temp : (number : ℕ) → expression entities n deeper (expr_shape.Temp number) ≡ expr_layer entities n deeper (ExprTree-F.Temp number)
-  expression-Temp number = fold_expr-Temp (Unit {0}) Meant (PrintItem entities n deeper) (Unit {0}) (List ℕ → Doing) (Unit {0}) (nothing entities n deeper) (expr_layer entities n deeper) (item_layer entities n deeper) (nothing entities n deeper) (stmt_layer entities n deeper) (nothing entities n deeper) number
+  expression-Temp number = fold_expr-Temp (Unit {0}) Meant PrintItem (Unit {0}) (List ℕ → Doing) (Unit {0}) nothing (expr_layer entities n deeper) item_layer nothing (stmt_layer entities n deeper) nothing number
 
   pub expression-Seq : (stmts : List StmtTree) (value : ExprTree) → expression entities n deeper (expr_shape.Seq stmts value) ≡ expr_layer entities n deeper (ExprTree-F.Seq (map (statement entities n deeper) stmts) (expression entities n deeper value))
-  expression-Seq stmts value = fold_expr-Seq (Unit {0}) Meant (PrintItem entities n deeper) (Unit {0}) (List ℕ → Doing) (Unit {0}) (nothing entities n deeper) (expr_layer entities n deeper) (item_layer entities n deeper) (nothing entities n deeper) (stmt_layer entities n deeper) (nothing entities n deeper) stmts value
+  expression-Seq stmts value = fold_expr-Seq (Unit {0}) Meant PrintItem (Unit {0}) (List ℕ → Doing) (Unit {0}) nothing (expr_layer entities n deeper) item_layer nothing (stmt_layer entities n deeper) nothing stmts value
 
   pub expression-At : (source : List ℕ) (line : ℕ) (value : ExprTree) → expression entities n deeper (expr_shape.At source line value) ≡ expr_layer entities n deeper (ExprTree-F.«ExprTree::At» source line (expression entities n deeper value))
-  expression-At source line value = fold_expr-At (Unit {0}) Meant (PrintItem entities n deeper) (Unit {0}) (List ℕ → Doing) (Unit {0}) (nothing entities n deeper) (expr_layer entities n deeper) (item_layer entities n deeper) (nothing entities n deeper) (stmt_layer entities n deeper) (nothing entities n deeper) source line value
+  expression-At source line value = fold_expr-At (Unit {0}) Meant PrintItem (Unit {0}) (List ℕ → Doing) (Unit {0}) nothing (expr_layer entities n deeper) item_layer nothing (stmt_layer entities n deeper) nothing source line value
 
-  pub item-Value : (value : ExprTree) → item (print_item_shape.Value value) ≡ item_layer entities n deeper (PrintItemTree-F.«PrintItemTree::Value» (expression entities n deeper value))
-  item-Value value = fold_print_item-Value (Unit {0}) Meant (PrintItem entities n deeper) (Unit {0}) (List ℕ → Doing) (Unit {0}) (nothing entities n deeper) (expr_layer entities n deeper) (item_layer entities n deeper) (nothing entities n deeper) (stmt_layer entities n deeper) (nothing entities n deeper) value
+  pub item-Value : (value : ExprTree) → item (print_item_shape.Value value) ≡ item_layer (PrintItemTree-F.«PrintItemTree::Value» (expression entities n deeper value))
+  item-Value value = fold_print_item-Value (Unit {0}) Meant PrintItem (Unit {0}) (List ℕ → Doing) (Unit {0}) nothing (expr_layer entities n deeper) item_layer nothing (stmt_layer entities n deeper) nothing value
 
   pub statement-Assign : (line : ℕ) (target : ExprTree) (value : ExprTree) → statement entities n deeper (stmt_shape.Assign line target value) ≡ stmt_layer entities n deeper (StmtTree-F.Assign line (expression entities n deeper target) (expression entities n deeper value))
-  statement-Assign line target value = fold_stmt-Assign (Unit {0}) Meant (PrintItem entities n deeper) (Unit {0}) (List ℕ → Doing) (Unit {0}) (nothing entities n deeper) (expr_layer entities n deeper) (item_layer entities n deeper) (nothing entities n deeper) (stmt_layer entities n deeper) (nothing entities n deeper) line target value
+  statement-Assign line target value = fold_stmt-Assign (Unit {0}) Meant PrintItem (Unit {0}) (List ℕ → Doing) (Unit {0}) nothing (expr_layer entities n deeper) item_layer nothing (stmt_layer entities n deeper) nothing line target value
 
   pub statement-If : (line : ℕ) (condition : ExprTree) (then_block : List StmtTree) (else_block : List StmtTree) → statement entities n deeper (stmt_shape.If line condition then_block else_block) ≡ stmt_layer entities n deeper (StmtTree-F.If line (expression entities n deeper condition) (map (statement entities n deeper) then_block) (map (statement entities n deeper) else_block))
-  statement-If line condition then_block else_block = fold_stmt-If (Unit {0}) Meant (PrintItem entities n deeper) (Unit {0}) (List ℕ → Doing) (Unit {0}) (nothing entities n deeper) (expr_layer entities n deeper) (item_layer entities n deeper) (nothing entities n deeper) (stmt_layer entities n deeper) (nothing entities n deeper) line condition then_block else_block
+  statement-If line condition then_block else_block = fold_stmt-If (Unit {0}) Meant PrintItem (Unit {0}) (List ℕ → Doing) (Unit {0}) nothing (expr_layer entities n deeper) item_layer nothing (stmt_layer entities n deeper) nothing line condition then_block else_block
 
   pub statement-Do : (line : ℕ) (id : ℕ) (variable : ExprTree) (lower : ExprTree) (upper : ExprTree) (step : ExprTree) (body : List StmtTree) → statement entities n deeper (stmt_shape.Do line id variable lower upper step body) ≡ stmt_layer entities n deeper (StmtTree-F.Do line id (expression entities n deeper variable) (expression entities n deeper lower) (expression entities n deeper upper) (expression entities n deeper step) (map (statement entities n deeper) body))
-  statement-Do line id variable lower upper step body = fold_stmt-Do (Unit {0}) Meant (PrintItem entities n deeper) (Unit {0}) (List ℕ → Doing) (Unit {0}) (nothing entities n deeper) (expr_layer entities n deeper) (item_layer entities n deeper) (nothing entities n deeper) (stmt_layer entities n deeper) (nothing entities n deeper) line id variable lower upper step body
+  statement-Do line id variable lower upper step body = fold_stmt-Do (Unit {0}) Meant PrintItem (Unit {0}) (List ℕ → Doing) (Unit {0}) nothing (expr_layer entities n deeper) item_layer nothing (stmt_layer entities n deeper) nothing line id variable lower upper step body
 
   pub statement-While : (line : ℕ) (id : ℕ) (condition : ExprTree) (body : List StmtTree) → statement entities n deeper (stmt_shape.While line id condition body) ≡ stmt_layer entities n deeper (StmtTree-F.While line id (expression entities n deeper condition) (map (statement entities n deeper) body))
-  statement-While line id condition body = fold_stmt-While (Unit {0}) Meant (PrintItem entities n deeper) (Unit {0}) (List ℕ → Doing) (Unit {0}) (nothing entities n deeper) (expr_layer entities n deeper) (item_layer entities n deeper) (nothing entities n deeper) (stmt_layer entities n deeper) (nothing entities n deeper) line id condition body
+  statement-While line id condition body = fold_stmt-While (Unit {0}) Meant PrintItem (Unit {0}) (List ℕ → Doing) (Unit {0}) nothing (expr_layer entities n deeper) item_layer nothing (stmt_layer entities n deeper) nothing line id condition body
 
   pub statement-Exit : (line : ℕ) (id : ℕ) → statement entities n deeper (stmt_shape.Exit line id) ≡ stmt_layer entities n deeper (StmtTree-F.Exit line id)
-  statement-Exit line id = fold_stmt-Exit (Unit {0}) Meant (PrintItem entities n deeper) (Unit {0}) (List ℕ → Doing) (Unit {0}) (nothing entities n deeper) (expr_layer entities n deeper) (item_layer entities n deeper) (nothing entities n deeper) (stmt_layer entities n deeper) (nothing entities n deeper) line id
+  statement-Exit line id = fold_stmt-Exit (Unit {0}) Meant PrintItem (Unit {0}) (List ℕ → Doing) (Unit {0}) nothing (expr_layer entities n deeper) item_layer nothing (stmt_layer entities n deeper) nothing line id
 
   pub statement-Cycle : (line : ℕ) (id : ℕ) → statement entities n deeper (stmt_shape.Cycle line id) ≡ stmt_layer entities n deeper (StmtTree-F.Cycle line id)
-  statement-Cycle line id = fold_stmt-Cycle (Unit {0}) Meant (PrintItem entities n deeper) (Unit {0}) (List ℕ → Doing) (Unit {0}) (nothing entities n deeper) (expr_layer entities n deeper) (item_layer entities n deeper) (nothing entities n deeper) (stmt_layer entities n deeper) (nothing entities n deeper) line id
+  statement-Cycle line id = fold_stmt-Cycle (Unit {0}) Meant PrintItem (Unit {0}) (List ℕ → Doing) (Unit {0}) nothing (expr_layer entities n deeper) item_layer nothing (stmt_layer entities n deeper) nothing line id
 
   pub statement-Call : (line : ℕ) (callee : List (List ℕ)) (arguments : List ExprTree) → statement entities n deeper (stmt_shape.Call line callee arguments) ≡ stmt_layer entities n deeper (StmtTree-F.Call line callee (map (expression entities n deeper) arguments))
-  statement-Call line callee arguments = fold_stmt-Call (Unit {0}) Meant (PrintItem entities n deeper) (Unit {0}) (List ℕ → Doing) (Unit {0}) (nothing entities n deeper) (expr_layer entities n deeper) (item_layer entities n deeper) (nothing entities n deeper) (stmt_layer entities n deeper) (nothing entities n deeper) line callee arguments
+  statement-Call line callee arguments = fold_stmt-Call (Unit {0}) Meant PrintItem (Unit {0}) (List ℕ → Doing) (Unit {0}) nothing (expr_layer entities n deeper) item_layer nothing (stmt_layer entities n deeper) nothing line callee arguments
 
   pub statement-Print : (line : ℕ) (form : ℕ) (advance : ℕ) (items : List PrintItemTree) → statement entities n deeper (stmt_shape.Print line form advance items) ≡ stmt_layer entities n deeper (StmtTree-F.Print line form advance (map item items))
-  statement-Print line form advance items = fold_stmt-Print (Unit {0}) Meant (PrintItem entities n deeper) (Unit {0}) (List ℕ → Doing) (Unit {0}) (nothing entities n deeper) (expr_layer entities n deeper) (item_layer entities n deeper) (nothing entities n deeper) (stmt_layer entities n deeper) (nothing entities n deeper) line form advance items
+  statement-Print line form advance items = fold_stmt-Print (Unit {0}) Meant PrintItem (Unit {0}) (List ℕ → Doing) (Unit {0}) nothing (expr_layer entities n deeper) item_layer nothing (stmt_layer entities n deeper) nothing line form advance items
 
   pub statement-Stop : (line : ℕ) (error : ℕ) (code : ExprTree) → statement entities n deeper (stmt_shape.Stop line error code) ≡ stmt_layer entities n deeper (StmtTree-F.Stop line error (expression entities n deeper code))
-  statement-Stop line error code = fold_stmt-Stop (Unit {0}) Meant (PrintItem entities n deeper) (Unit {0}) (List ℕ → Doing) (Unit {0}) (nothing entities n deeper) (expr_layer entities n deeper) (item_layer entities n deeper) (nothing entities n deeper) (stmt_layer entities n deeper) (nothing entities n deeper) line error code
+  statement-Stop line error code = fold_stmt-Stop (Unit {0}) Meant PrintItem (Unit {0}) (List ℕ → Doing) (Unit {0}) nothing (expr_layer entities n deeper) item_layer nothing (stmt_layer entities n deeper) nothing line error code
 
   pub statement-Return : (line : ℕ) → statement entities n deeper (stmt_shape.Return line) ≡ stmt_layer entities n deeper (StmtTree-F.Return line)
-  statement-Return line = fold_stmt-Return (Unit {0}) Meant (PrintItem entities n deeper) (Unit {0}) (List ℕ → Doing) (Unit {0}) (nothing entities n deeper) (expr_layer entities n deeper) (item_layer entities n deeper) (nothing entities n deeper) (stmt_layer entities n deeper) (nothing entities n deeper) line
+  statement-Return line = fold_stmt-Return (Unit {0}) Meant PrintItem (Unit {0}) (List ℕ → Doing) (Unit {0}) nothing (expr_layer entities n deeper) item_layer nothing (stmt_layer entities n deeper) nothing line
 
   pub statement-Block : (line : ℕ) (stmts : List StmtTree) → statement entities n deeper (stmt_shape.Block line stmts) ≡ stmt_layer entities n deeper (StmtTree-F.Block line (map (statement entities n deeper) stmts))
-  statement-Block line stmts = fold_stmt-Block (Unit {0}) Meant (PrintItem entities n deeper) (Unit {0}) (List ℕ → Doing) (Unit {0}) (nothing entities n deeper) (expr_layer entities n deeper) (item_layer entities n deeper) (nothing entities n deeper) (stmt_layer entities n deeper) (nothing entities n deeper) line stmts
+  statement-Block line stmts = fold_stmt-Block (Unit {0}) Meant PrintItem (Unit {0}) (List ℕ → Doing) (Unit {0}) nothing (expr_layer entities n deeper) item_layer nothing (stmt_layer entities n deeper) nothing line stmts
 
   pub statement-Let : (line : ℕ) (number : ℕ) (value : ExprTree) → statement entities n deeper (stmt_shape.Let line number value) ≡ stmt_layer entities n deeper (StmtTree-F.Let line number (expression entities n deeper value))
-  statement-Let line number value = fold_stmt-Let (Unit {0}) Meant (PrintItem entities n deeper) (Unit {0}) (List ℕ → Doing) (Unit {0}) (nothing entities n deeper) (expr_layer entities n deeper) (item_layer entities n deeper) (nothing entities n deeper) (stmt_layer entities n deeper) (nothing entities n deeper) line number value
+  statement-Let line number value = fold_stmt-Let (Unit {0}) Meant PrintItem (Unit {0}) (List ℕ → Doing) (Unit {0}) nothing (expr_layer entities n deeper) item_layer nothing (stmt_layer entities n deeper) nothing line number value
 
   pub statement-Begin : (line : ℕ) (number : ℕ) → statement entities n deeper (stmt_shape.Begin line number) ≡ stmt_layer entities n deeper (StmtTree-F.Begin line number)
-  statement-Begin line number = fold_stmt-Begin (Unit {0}) Meant (PrintItem entities n deeper) (Unit {0}) (List ℕ → Doing) (Unit {0}) (nothing entities n deeper) (expr_layer entities n deeper) (item_layer entities n deeper) (nothing entities n deeper) (stmt_layer entities n deeper) (nothing entities n deeper) line number
+  statement-Begin line number = fold_stmt-Begin (Unit {0}) Meant PrintItem (Unit {0}) (List ℕ → Doing) (Unit {0}) nothing (expr_layer entities n deeper) item_layer nothing (stmt_layer entities n deeper) nothing line number
 
   pub statement-Put : (line : ℕ) (number : ℕ) (value : ExprTree) → statement entities n deeper (stmt_shape.Put line number value) ≡ stmt_layer entities n deeper (StmtTree-F.Put line number (expression entities n deeper value))
-  statement-Put line number value = fold_stmt-Put (Unit {0}) Meant (PrintItem entities n deeper) (Unit {0}) (List ℕ → Doing) (Unit {0}) (nothing entities n deeper) (expr_layer entities n deeper) (item_layer entities n deeper) (nothing entities n deeper) (stmt_layer entities n deeper) (nothing entities n deeper) line number value
+  statement-Put line number value = fold_stmt-Put (Unit {0}) Meant PrintItem (Unit {0}) (List ℕ → Doing) (Unit {0}) nothing (expr_layer entities n deeper) item_layer nothing (stmt_layer entities n deeper) nothing line number value
 
   pub statement-End : (line : ℕ) → statement entities n deeper (stmt_shape.End line) ≡ stmt_layer entities n deeper (StmtTree-F.End line)
-  statement-End line = fold_stmt-End (Unit {0}) Meant (PrintItem entities n deeper) (Unit {0}) (List ℕ → Doing) (Unit {0}) (nothing entities n deeper) (expr_layer entities n deeper) (item_layer entities n deeper) (nothing entities n deeper) (stmt_layer entities n deeper) (nothing entities n deeper) line
+  statement-End line = fold_stmt-End (Unit {0}) Meant PrintItem (Unit {0}) (List ℕ → Doing) (Unit {0}) nothing (expr_layer entities n deeper) item_layer nothing (stmt_layer entities n deeper) nothing line
 
   -- where they are applied
   pub value-IntConst : (kind : ℕ) (value : ℤ) → (here : Location) (s : State) (w : Written) → (expression entities n deeper (expr_shape.IntConst kind value)).value here s w ≡ (expr_layer entities n deeper (ExprTree-F.IntConst kind value)).value here s w

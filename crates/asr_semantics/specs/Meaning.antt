@@ -134,6 +134,88 @@ no_rule = record { value = λ here. wrong Stuck; argument = λ here. wrong Stuck
 abbrev pub logical : ℕ → Bool
 logical code = code == TRUE
 
+abbrev pub PrintItem : Type 0
+PrintItem = Option (Location → M Value)
+
+abbrev pub item_layer : PrintItemTree-F (Unit {0}) Meant PrintItem (Unit {0}) (List ℕ → Doing) (Unit {0}) → PrintItem
+item_layer (PrintItemTree-F.«PrintItemTree::Value» value) = Some value.value
+item_layer (PrintItemTree-F.«PrintItemTree::Loop» variable lower upper step items) = None
+
+-- which signals a loop takes
+abbrev pub exits : ℕ → Signal → Bool
+exits id (Exits loop) = loop == id
+exits id (Cycles loop) = false
+exits id Returns = false
+
+abbrev pub cycles : ℕ → Signal → Bool
+cycles id (Cycles loop) = loop == id
+cycles id (Exits loop) = false
+cycles id Returns = false
+
+-- one turn: what cycles this loop ends it
+abbrev pub turn_of : ℕ → Doing → Doing
+turn_of id body = bind body (landing (cycles id))
+
+abbrev pub choose : Doing → Doing → Bool → Doing
+choose a b true = a
+choose a b false = b
+
+-- a `do` with its count (11.1.7.4.1): the variable is stepped behind each turn that was not left
+abbrev pub stepped : Location → Binding → ℤ → M (Unit {0})
+stepped here variable step =
+    bind (fetch variable) (λ v. bind (stuck (integer4_of v)) (λ z. bind (result here (single (fitted 4 (Ok (z +ℤ step))))) (assign variable)))
+
+abbrev pub then_step : Location → Binding → ℤ → Option Signal → Doing
+then_step here variable step None = then_next (stepped here variable step)
+then_step here variable step (Some signal) = give (Some signal)
+
+-- the items of a record, each written when it has been evaluated
+abbrev pub put_each : Location → Last → List PrintItem → M (Unit {0})
+put_each here last [] = give tt
+put_each here last (None ∷ items) = wrong Stuck
+put_each here last (Some value ∷ items) = bind (value here) (λ v. bind (put_item last v) (λ next. put_each here next items))
+
+abbrev pub print_digits : Location → ℕ → List PrintItem → M (Unit {0})
+print_digits here advance (Some value ∷ []) = bind (value here) (λ v. bind (stuck (digits v)) (λ text. bind (print text) (λ u. advance_record advance)))
+print_digits here advance _ = wrong Stuck
+
+abbrev pub print_list : Location → List PrintItem → M (Unit {0})
+print_list here items = bind begin_record (λ u. bind (put_each here Nothing items) (λ w. end_record))
+
+abbrev pub print_items : Location → ℕ → ℕ → List PrintItem → M (Unit {0})
+print_items here form advance items =
+    if form == FORMAT_LIST then print_list here items
+    else if form == FORMAT_INTEGER then print_digits here advance items
+    else wrong Stuck
+
+-- the status of a stop code, which counts modulo 256
+abbrev pub status_of : ℤ → ℕ
+status_of z = unsigned_abs (int_rem_euclid z (pos 256))
+
+abbrev pub stops : Location → Meant → Doing
+stops here code = bind (code.value here) (λ v. bind (stuck (integer_of v)) (λ z. stop (status_of z)))
+
+-- A call of a subroutine gives no value (15.5.1).
+abbrev pub no_value : Option Value → M (Unit {0})
+no_value None = give tt
+no_value (Some value) = wrong Stuck
+
+abbrev pub at : List ℕ → ℕ → Location
+at source line = record { source = source; line = line }
+
+abbrev pub assigns : Location → Meant → Meant → M (Unit {0})
+assigns here target value = bind (value.value here) (λ v. bind (target.place here) (λ b. assign b v))
+
+abbrev pub puts : Location → ℕ → Meant → M (Unit {0})
+puts here number value =
+    bind (value.value here) (λ v. bind (temporary_last number) (λ last. bind (put_item last v) (λ next. change (set number (Recording next)))))
+
+abbrev pub no_doing : List ℕ → Doing
+no_doing source = wrong Stuck
+
+abbrev pub nothing : {X : Type 0} → X → Unit {0}
+nothing x = tt
+
 module _ (entities : Entities) (n : ℕ) (inner : Calls) where
   abbrev pub variable_meant : Path → Meant
   variable_meant path = record {
@@ -144,9 +226,6 @@ module _ (entities : Entities) (n : ℕ) (inner : Calls) where
 
   abbrev pub called : Path → List Meant → Location → M (Option Value)
   called callee arguments here = bind (each_argument here arguments) (λ bs. inner (target entities callee, bs))
-
-  abbrev pub PrintItem : Type 0
-  PrintItem = Option (Location → M Value)
 
   abbrev pub expr_layer : ExprTree-F (Unit {0}) Meant PrintItem (Unit {0}) (List ℕ → Doing) (Unit {0}) → Meant
   expr_layer (ExprTree-F.IntConst kind value) = constant (Integer kind value)
@@ -173,38 +252,6 @@ module _ (entities : Entities) (n : ℕ) (inner : Calls) where
   expr_layer (ExprTree-F.SecLen lower upper step low high) = no_rule
   expr_layer (ExprTree-F.Arr number element extents) = no_rule
 
-  abbrev pub item_layer : PrintItemTree-F (Unit {0}) Meant PrintItem (Unit {0}) (List ℕ → Doing) (Unit {0}) → PrintItem
-  item_layer (PrintItemTree-F.«PrintItemTree::Value» value) = Some value.value
-  item_layer (PrintItemTree-F.«PrintItemTree::Loop» variable lower upper step items) = None
-
-  -- which signals a loop takes
-  abbrev pub exits : ℕ → Signal → Bool
-  exits id (Exits loop) = loop == id
-  exits id (Cycles loop) = false
-  exits id Returns = false
-
-  abbrev pub cycles : ℕ → Signal → Bool
-  cycles id (Cycles loop) = loop == id
-  cycles id (Exits loop) = false
-  cycles id Returns = false
-
-  -- one turn: what cycles this loop ends it
-  abbrev pub turn_of : ℕ → Doing → Doing
-  turn_of id body = bind body (landing (cycles id))
-
-  abbrev pub choose : Doing → Doing → Bool → Doing
-  choose a b true = a
-  choose a b false = b
-
-  -- a `do` with its count (11.1.7.4.1): the variable is stepped behind each turn that was not left
-  abbrev pub stepped : Location → Binding → ℤ → M (Unit {0})
-  stepped here variable step =
-      bind (fetch variable) (λ v. bind (stuck (integer4_of v)) (λ z. bind (result here (single (fitted 4 (Ok (z +ℤ step))))) (assign variable)))
-
-  abbrev pub then_step : Location → Binding → ℤ → Option Signal → Doing
-  then_step here variable step None = then_next (stepped here variable step)
-  then_step here variable step (Some signal) = give (Some signal)
-
   abbrev pub do_turns : Location → ℕ → Doing → Binding → ℤ → ℤ → ℕ → Doing
   do_turns here id body variable first step count =
       bind (assign variable (Single (Integer 4 first))) (λ u.
@@ -217,50 +264,6 @@ module _ (entities : Entities) (n : ℕ) (inner : Calls) where
 
   abbrev pub while_loop : Location → ℕ → Meant → Doing → Doing
   while_loop here id condition body = bind (iterate n (tested condition.value here) (turn_of id body)) (landing (exits id))
-
-  -- the items of a record, each written when it has been evaluated
-  abbrev pub put_each : Location → Last → List PrintItem → M (Unit {0})
-  put_each here last [] = give tt
-  put_each here last (None ∷ items) = wrong Stuck
-  put_each here last (Some value ∷ items) = bind (value here) (λ v. bind (put_item last v) (λ next. put_each here next items))
-
-  abbrev pub print_digits : Location → ℕ → List PrintItem → M (Unit {0})
-  print_digits here advance (Some value ∷ []) = bind (value here) (λ v. bind (stuck (digits v)) (λ text. bind (print text) (λ u. advance_record advance)))
-  print_digits here advance _ = wrong Stuck
-
-  abbrev pub print_list : Location → List PrintItem → M (Unit {0})
-  print_list here items = bind begin_record (λ u. bind (put_each here Nothing items) (λ w. end_record))
-
-  abbrev pub print_items : Location → ℕ → ℕ → List PrintItem → M (Unit {0})
-  print_items here form advance items =
-      if form == FORMAT_LIST then print_list here items
-      else if form == FORMAT_INTEGER then print_digits here advance items
-      else wrong Stuck
-
-  -- the status of a stop code, which counts modulo 256
-  abbrev pub status_of : ℤ → ℕ
-  status_of z = unsigned_abs (int_rem_euclid z (pos 256))
-
-  abbrev pub stops : Location → Meant → Doing
-  stops here code = bind (code.value here) (λ v. bind (stuck (integer_of v)) (λ z. stop (status_of z)))
-
-  -- A call of a subroutine gives no value (15.5.1).
-  abbrev pub no_value : Option Value → M (Unit {0})
-  no_value None = give tt
-  no_value (Some value) = wrong Stuck
-
-  abbrev pub at : List ℕ → ℕ → Location
-  at source line = record { source = source; line = line }
-
-  abbrev pub assigns : Location → Meant → Meant → M (Unit {0})
-  assigns here target value = bind (value.value here) (λ v. bind (target.place here) (λ b. assign b v))
-
-  abbrev pub puts : Location → ℕ → Meant → M (Unit {0})
-  puts here number value =
-      bind (value.value here) (λ v. bind (temporary_last number) (λ last. bind (put_item last v) (λ next. change (set number (Recording next)))))
-
-  abbrev pub no_doing : List ℕ → Doing
-  no_doing source = wrong Stuck
 
   abbrev pub stmt_layer : StmtTree-F (Unit {0}) Meant PrintItem (Unit {0}) (List ℕ → Doing) (Unit {0}) → List ℕ → Doing
   stmt_layer (StmtTree-F.Assign line target value) source = then_next (assigns (at source line) target value)
@@ -285,9 +288,6 @@ module _ (entities : Entities) (n : ℕ) (inner : Calls) where
   stmt_layer (StmtTree-F.Count line number bound body) source = no_doing source
   stmt_layer (StmtTree-F.Same line left right) source = no_doing source
   stmt_layer (StmtTree-F.Probe line designator) source = no_doing source
-
-  abbrev pub nothing : {X : Type 0} → X → Unit {0}
-  nothing x = tt
 
   abbrev pub expression : ExprTree → Meant
   expression = fold-ExprTree (Unit {0}) Meant PrintItem (Unit {0}) (List ℕ → Doing) (Unit {0}) nothing expr_layer item_layer nothing stmt_layer nothing

@@ -1,0 +1,4 @@
+pub mod Fine
+pub mod Monotone
+pub mod Nodes
+mod Runs

@@ -1,0 +1,5 @@
+pub mod Greedy
+pub mod Heaps
+pub mod Lists
+pub mod RowLemmas
+pub mod SearchLemmas

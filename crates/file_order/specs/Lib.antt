@@ -1,0 +1,5 @@
+pub mod Holders
+pub mod Modules
+pub mod Orders
+pub mod Cycles
+pub mod Search

@@ -1,5 +1,6 @@
 pub mod Greedy
 pub mod Heaps
+pub mod HolderLemmas
 pub mod Lists
 pub mod RowLemmas
 pub mod SearchLemmas

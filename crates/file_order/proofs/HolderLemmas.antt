@@ -6,13 +6,13 @@ use Rattle.std.specs.List.{Contains}
 use Rattle.std.specs.Ordering.{nat_cmp}
 use Rattle.std.specs.Str.{bytes_eq}
 use Rattle.std.proofs.lemmas.Bool.{cases_eq, cases_lt, cases_Bool}
-use Rattle.std.proofs.lemmas.List.{get_or-set_same, get_or-set_other, length-set, get_or-map, length-map, get_or_past, get_or-replicate, length-replicate, get_or_default}
+use Rattle.std.proofs.lemmas.List.{get_or-set_same, get_or-set_other, length-set, get_or-map, length-map, get_or_past, get_or-replicate, length-replicate, take_more, take_all}
 use Rattle.std.proofs.lemmas.List.Elements.{Contains-append_left, Contains-append_right, Contains-push, Contains-push_cases}
 use Rattle.std.proofs.lemmas.Map.Text.{btree_map_updates_str}
 use Rattle.std.proofs.lemmas.Slice.Eq.{bytes_eq-Decides}
 use Rattle.ast_nodes.specs.declared.file.File.{File}
 use Rattle.file_order.specs.Holders.{Holders, places_in, places_of, IsAdded, IsJoined, IsUnder}
-use Rattle.file_order.specs.Modules.{at_place, held_by, used_by, MustPrecede}
+use Rattle.file_order.specs.Modules.{names_of, at_place, held_by, used_by, MustPrecede}
 use Rattle.file_order.specs.Search.{row_at, IsListed}
 use Rattle.file_order.proofs.Lists.{not_in_none}
 use Rattle.file_order.proofs.SearchLemmas.{row_other}
@@ -257,3 +257,12 @@ rowed_all files n rows rowed whole a b =
     λ h.
       let low = at_within used_by files b h.1.0 h.1.2 in
       (rowed.listed a b).1 (omega (arith, low), h))
+
+-- one more of the names that are lent
+pub names_more : (names : List (Bor (List ℕ))) (i : ℕ) (d : Bor (List ℕ)) → i < length names → take (i + 1) (names_of names) ≡ take i (names_of names) ++ (get_or names i d).now ∷ []
+names_more names i d within =
+    let less : i < length (names_of names) = omega (arith, length-map names (λ (n : Bor (List ℕ)). n.now), within) in
+    take_more (names_of names) i [] less ∙ ap (λ (x : List ℕ). take i (names_of names) ++ x ∷ []) (get_or-map (λ (n : Bor (List ℕ)). n.now) names i d [] within)
+
+pub names_all : (names : List (Bor (List ℕ))) (i : ℕ) → length names ≤ i → take i (names_of names) ≡ names_of names
+names_all names i whole = take_all i (names_of names) (omega (arith, length-map names (λ (n : Bor (List ℕ)). n.now), whole))

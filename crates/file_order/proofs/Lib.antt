@@ -4,3 +4,4 @@ pub mod HolderLemmas
 pub mod Lists
 pub mod RowLemmas
 pub mod SearchLemmas
+pub mod WalkLemmas

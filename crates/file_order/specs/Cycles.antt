@@ -15,18 +15,19 @@ IsStuck n Before p = (set : ℕ → Bool) × IsClosed n Before set × (set p ≡
 abbrev pub IsLeastOf : (ℕ → Type 0) → ℕ → Type 0
 IsLeastOf P p = P p × ((q : ℕ) → P q → p ≤ q)
 
--- The walk begins at the least stuck place, and goes each time to the least stuck place that must stand before the present one.
-pub record IsWalk (n : ℕ) (Before : ℕ → ℕ → Type 0) (walk : List ℕ) : Type 0 where
+-- The walk begins at the least place of a set, and goes each time to the least place of the set that must stand before the
+-- present one.
+pub record IsWalk (In : ℕ → Type 0) (Before : ℕ → ℕ → Type 0) (walk : List ℕ) : Type 0 where
   pub some : 0 < length walk
-  pub first : IsLeastOf (IsStuck n Before) (slice_index walk 0)
-  pub next : (i : ℕ) → i + 1 < length walk → IsLeastOf (λ a. IsStuck n Before a × Before a (slice_index walk i)) (slice_index walk (i + 1))
+  pub first : IsLeastOf In (slice_index walk 0)
+  pub next : (i : ℕ) → i + 1 < length walk → IsLeastOf (λ a. In a × Before a (slice_index walk i)) (slice_index walk (i + 1))
 
--- The walk comes to `again` a second time, and to no other place twice before: the cycle is the walk from the first visit of
+-- The walk comes to `again` a second time, and before that to no place twice. The cycle is the walk from the first visit of
 -- that place up to the second, which is left out.
-pub record IsCycle (n : ℕ) (Before : ℕ → ℕ → Type 0) (cycle : List ℕ) : Type 0 where
+pub record IsCycle (In : ℕ → Type 0) (Before : ℕ → ℕ → Type 0) (cycle : List ℕ) : Type 0 where
   pub ahead : List ℕ
   pub again : ℕ
   pub rest : List ℕ
   pub is : cycle ≡ again ∷ rest
-  pub walk : IsWalk n Before (ahead ++ cycle ++ again ∷ [])
+  pub walk : IsWalk In Before (ahead ++ cycle ++ again ∷ [])
   pub once : IsOnce (ahead ++ cycle)

@@ -2,8 +2,13 @@
 #![tactic(auto)]
 
 mod candidates;
+mod cycle;
+mod fault;
 mod holders;
+mod answer;
 mod rows;
 mod search;
 mod uses;
 
+pub use fault::OrderFault;
+pub use answer::order;

@@ -1,3 +1,4 @@
+pub mod AnswerLemmas
 pub mod Greedy
 pub mod Heaps
 pub mod HolderLemmas

@@ -309,6 +309,13 @@ module _ (all before waiting : List (List ℕ)) (marks : List Bool) (order : Lis
         (λ (w : IsWaiting all waiting marks b). (w.0, w.1, w.2))
         (s.covered b open_b))), o)
 
+  pub open_waits : (p : ℕ) → IsOpen marks p → (a : ℕ) × IsOpen marks a × IsListed before a p
+  open_waits p o =
+      ⊎_elim
+        (λ (c : Contains [] p). absurd (not_in_none p c))
+        (λ (w : IsWaiting all waiting marks p). (w.0, w.1, s.rows.kept w.0 p w.2 w.1))
+        (s.covered p o)
+
   pub stuck_open : (p : ℕ) → IsStuck (length all) (IsListed all) p → IsOpen marks p
   stuck_open p stuck =
       ⊎_elim

@@ -2,7 +2,7 @@
 use Rattle.std.proofs.Common.{◌≡◌, ◌≢◌, ◌<◌, ◌≤◌, ◌+◌, ◌⊎◌, ⊎_elim, ℕ, Bool, true, false, Option, Some, None, List, [], ◌∷◌, ◌++◌, length, get_or, set, take, drop, replicate, min, sym, ◌∙◌, ap, subst, refl, arith}
 use Rattle.std.specs.List.{Contains}
 use Rattle.std.proofs.lemmas.Bool.{cases_eq, cases_lt, cases_Bool}
-use Rattle.std.proofs.lemmas.List.{get_or_append_left, get_or_push, length_push, get_or-set_same, get_or-set_other, length-set, get_or-replicate, get_or_past, length-replicate, take-append-drop, drop_more}
+use Rattle.std.proofs.lemmas.List.{get_or_append_left, get_or_push, length_push, get_or-set_same, get_or-set_other, length-set, get_or-replicate, get_or_past, length-replicate, take-append-drop, drop_more, get_or_default}
 use Rattle.std.proofs.lemmas.List.Elements.{Contains-append_left, Contains-push, Contains-push_cases}
 use Rattle.file_order.specs.Orders.{StandsAt, IsOnce}
 use Rattle.file_order.specs.Cycles.{IsLeastOf, IsWalk, IsCycle}
@@ -144,6 +144,16 @@ walking_more rows marks walk seen here next w unseen within least =
                   (Contains-push_cases walk here p c))
             (cases_eq p here);
     }
+
+pub here_within : (rows : List (List ℕ)) (marks : List Bool) (walk : List ℕ) (seen : List (Option ℕ)) (here : ℕ) → IsWalking rows marks walk seen here → here < length seen
+here_within rows marks walk seen here w =
+    ⊎_elim
+      (λ (less : here < length marks). omega (arith, w.marked))
+      (λ (more : length marks ≤ here). absurd (not_both (is_open marks here) w.here_open (get_or_past marks here false more)))
+      (cases_lt here (length marks))
+
+pub visit_is : (seen : List (Option ℕ)) (here : ℕ) (read at : Option ℕ) → here < length seen → read ≡ get_or seen here read → read ≡ at → first_visit seen here ≡ at
+visit_is seen here read at within e f = get_or_default seen here None read within ∙ sym e ∙ f
 
 pub walking_end : (rows : List (List ℕ)) (marks : List Bool) (walk : List ℕ) (seen : List (Option ℕ)) (here first : ℕ) → IsWalking rows marks walk seen here → first_visit seen here ≡ Some first → IsCycle (IsOpen marks) (IsListed rows) (drop first walk)
 walking_end rows marks walk seen here first w found =

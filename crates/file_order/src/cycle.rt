@@ -1,5 +1,5 @@
 //! The walk that names a cycle.
-ghost use Rattle.std.specs.Prelude.{◌≡◌, ◌<◌, ◌≤◌, ◌∷◌, ◌++◌, ℕ, [], List, Option, length, IfOk};
+ghost use Rattle.std.specs.Prelude.{◌≡◌, ◌<◌, ◌≤◌, ◌∷◌, ◌++◌, ℕ, [], List, Option, length, drop, IfOk};
 ghost use Rattle.std.specs.List.{Contains};
 ghost use Rattle.file_order.specs.Cycles.{IsLeastOf, IsCycle};
 ghost use Rattle.file_order.specs.Search.{row_at, IsListed, IsOpen, is_open};
@@ -43,6 +43,14 @@ fn next(marks: &[bool], before: &Rows, here: usize) -> usize
     least_open(marks, before.row(here)).unwrap()
 }
 
+/// A list without its first places.
+fn cut(alloc: Global, places: &[usize], first: usize) -> Result<Vec<usize>, Memory>
+    requires { first ≤ length places.now }
+    ensures { IfOk result (λ rest. rest.items ≡ drop first places.now) }
+{
+    Ok(Vec::from_slice(alloc, &places[first..])?)
+}
+
 /// The cycle to which the walk from the least open place comes, where each open place has an open
 /// one in its row.
 pub(crate) fn cycle_from(alloc: Global, marks: &[bool], before: &Rows, start: usize) -> Result<Vec<usize>, Memory>
@@ -56,7 +64,7 @@ pub(crate) fn cycle_from(alloc: Global, marks: &[bool], before: &Rows, start: us
     let mut here = start;
     loop {
         if let Some(first) = seen[here] {
-            return Ok(Vec::from_slice(alloc, &walk[first..])?);
+            return cut(alloc, &walk, first);
         }
         seen[here] = Some(walk.len());
         walk.push(here)?;

@@ -6,9 +6,13 @@ use Rattle.file_order.specs.Cycles.{IsStuck}
 
 module _ (n n' : ℕ) (Before Before' : ℕ → ℕ → Type 0) (same : n ≡ n') where
   pub stuck_as : ((a b : ℕ) → Before a b → Before' a b) → (p : ℕ) → IsStuck n Before p → IsStuck n' Before' p
-  stuck_as more p stuck = (stuck.0, (λ b h.
-      let one = stuck.1 b h in
-      (subst (λ (k : ℕ). b < k) same one.0, (one.1.0, one.1.1, more one.1.0 b one.1.2))), stuck.2)
+  stuck_as more p stuck = (
+    stuck.0,
+    (λ b h.
+        let one = stuck.1 b h in
+        (subst (λ (k : ℕ). b < k) same one.0, (one.1.0, one.1.1, more one.1.0 b one.1.2))),
+    stuck.2,
+  )
 
   pub valid_as : ((a b : ℕ) → Before' a b → Before a b) → (order : List ℕ) → IsValidOrder n Before order → IsValidOrder n' Before' order
   valid_as less order valid = record {

@@ -18,13 +18,13 @@ module _ (n : ℕ) (Before : ℕ → ℕ → Type 0) where
   pub greedy_push : (order : List ℕ) (p : ℕ) → IsGreedy n Before order → IsLeastOf (IsReady n Before order) p → IsGreedy n Before (order ++ p ∷ [])
   greedy_push order p greedy next k l =
       ⊎_elim
-        (λ (less : k < length order). moved (take k order) (take k (order ++ p ∷ [])) (get_or order k 0) (get_or (order ++ p ∷ []) k 0)
-            (sym (take-append-le k order (p ∷ []) (omega arith))) (sym (get_or_append_left order (p ∷ []) 0 k less)) (greedy k less))
-        (λ (more : length order ≤ k).
-            let last : length order ≡ k = omega (arith, length_push order p, l) in
-            moved order (take k (order ++ p ∷ [])) p (get_or (order ++ p ∷ []) k 0)
-            (sym (take_at order (p ∷ []) k last)) (sym (get_or_push order p 0 k last)) next)
-        (cases_lt k (length order))
+      (λ (less : k < length order). moved (take k order) (take k (order ++ p ∷ [])) (get_or order k 0) (get_or (order ++ p ∷ []) k 0)
+      (sym (take-append-le k order (p ∷ []) (omega arith))) (sym (get_or_append_left order (p ∷ []) 0 k less)) (greedy k less))
+      (λ (more : length order ≤ k).
+      let last : length order ≡ k = omega (arith, length_push order p, l) in
+      moved order (take k (order ++ p ∷ [])) p (get_or (order ++ p ∷ []) k 0)
+      (sym (take_at order (p ∷ []) k last)) (sym (get_or_push order p 0 k last)) next)
+      (cases_lt k (length order))
 
   pub greedy_once : (order : List ℕ) → IsGreedy n Before order → IsOnce order
   greedy_once order greedy i j less within same =
@@ -52,13 +52,13 @@ module _ (n : ℕ) (Before : ℕ → ℕ → Type 0) where
       let i = pair.0 in
       let j = pair.1 in
       ⊎_elim
-        (λ (before : j < k). absurd (valid.once j k before within pair.4.1))
-        (λ (not_before : k ≤ j).
-            ⊎_elim
-              (λ (after : k < j). absurd (valid.once k j after pair.4.0 (sym pair.4.1)))
-              (λ (not_after : j ≤ k). (i, omega (arith, pair.2), pair.3))
-              (cases_lt k j))
-        (cases_lt j k)
+      (λ (before : j < k). absurd (valid.once j k before within pair.4.1))
+      (λ (not_before : k ≤ j).
+      ⊎_elim
+      (λ (after : k < j). absurd (valid.once k j after pair.4.0 (sym pair.4.1)))
+      (λ (not_after : j ≤ k). (i, omega (arith, pair.2), pair.3))
+      (cases_lt k j))
+      (cases_lt j k)
 
   no_stuck_in : (order : List ℕ) → ((k a : ℕ) → k < length order → Before a (get_or order k 0) → (i : ℕ) × (i < k) × StandsAt order i a) → (set : ℕ → Bool) → IsClosed n Before set → (m k : ℕ) → k < m → k < length order → set (get_or order k 0) ≡ true → ⊥
   no_stuck_in order earlier set closed zero k less within h = absurd (omega (arith, less))
@@ -119,13 +119,16 @@ module _ (n : ℕ) (Before : ℕ → ℕ → Type 0) where
       let next = here_next order greedy done x xs e in
       let upto : x ≤ y = next.1 y (valid_ready other valid done y ys f) in
       ⊎_elim
-        (λ (less : x < y). inl less)
-        (λ (not_less : y ≤ x).
-            let same : x ≡ y = omega arith in
-            inr (same, not_above order other greedy all valid (done ++ x ∷ []) xs ys
-              (e ∙ sym (append_assoc done (x ∷ []) xs))
-              (f ∙ ap (λ (z : ℕ). done ++ z ∷ ys) (sym same) ∙ sym (append_assoc done (x ∷ []) ys))))
-        (cases_lt x y)
+      (λ (less : x < y). inl less)
+      (λ (not_less : y ≤ x).
+      let same : x ≡ y = omega arith in
+      inr (
+        same,
+        not_above order other greedy all valid (done ++ x ∷ []) xs ys
+            (e ∙ sym (append_assoc done (x ∷ []) xs))
+            (f ∙ ap (λ (z : ℕ). done ++ z ∷ ys) (sym same) ∙ sym (append_assoc done (x ∷ []) ys)),
+      ))
+      (cases_lt x y)
 
   pub greedy_least : (order : List ℕ) → IsGreedy n Before order → ((p : ℕ) → p < n → Contains order p) → ((a b : ℕ) → Before a b → b < n) → IsLeastOrder n Before order
   greedy_least order greedy all within = record {

@@ -1,4 +1,5 @@
 pub mod AnswerLemmas
+pub mod Exists
 pub mod Greedy
 pub mod Heaps
 pub mod HolderLemmas

@@ -1,4 +1,6 @@
+pub mod Examples
 pub mod Holders
+pub mod Laws
 pub mod Modules
 pub mod Orders
 pub mod Answers

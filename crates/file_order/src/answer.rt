@@ -23,16 +23,16 @@ fn first_open(marks: &[bool]) -> Option<usize>
     None
 }
 
-/// The order in which files compile, by their places: the least in which each file that holds a module
-/// stands before every other file that uses it (ISO/IEC 1539-1:2018, 14.2.2). A module that no file
-/// holds is no fault here.
+/// The order in which files compile, by their places: the least one in which a file that holds a
+/// module stands before every other file that uses it (ISO/IEC 1539-1:2018, 14.2.2). A module that
+/// no file holds is no fault here.
 ///
-/// There is none where files wait for one another. Then it names a cycle, to which a walk comes that
-/// begins at the least file of those that wait so, and goes each time to the least of them that must
-/// stand before the present one.
+/// Where there is no such order, files wait for one another, and it names a cycle of them: the one to
+/// which a walk comes that begins at the first of the stuck files, and goes each time to the first
+/// stuck file that must stand before the present one.
 ///
-/// It takes time in the names and uses, and in the pairs of files that must stand one before another, up
-/// to a logarithm.
+/// It takes time in the names and uses, and in the pairs of files of which one must stand before the
+/// other, up to a logarithm.
 pub fn order(alloc: Global, files: &[File]) -> Result<Vec<usize>, OrderFault>
     ensures { IsAnswer files.now result }
 {
@@ -40,6 +40,9 @@ pub fn order(alloc: Global, files: &[File]) -> Result<Vec<usize>, OrderFault>
     let search = search_from(alloc, before)?;
     match first_open(&search.marks) {
         None => Ok(search.order),
-        Some(start) => Err(OrderFault::Cycle(cycle_from(alloc, &search.marks, &search.before, start)?)),
+        Some(start) => {
+            let cycle = cycle_from(alloc, &search.marks, &search.before, start)?;
+            Err(OrderFault::Cycle(cycle))
+        }
     }
 }

@@ -53,7 +53,12 @@ fn cut(alloc: Global, places: &[usize], first: usize) -> Result<Vec<usize>, Memo
 
 /// The cycle to which the walk from the least open place comes, where each open place has an open
 /// one in its row.
-pub(crate) fn cycle_from(alloc: Global, marks: &[bool], before: &Rows, start: usize) -> Result<Vec<usize>, Memory>
+pub(crate) fn cycle_from(
+    alloc: Global,
+    marks: &[bool],
+    before: &Rows,
+    start: usize,
+) -> Result<Vec<usize>, Memory>
     requires start { IsLeastOf (IsOpen marks.now) start }
     requires rows { length before.now ≡ length marks.now }
     requires waits { (p : ℕ) → IsOpen marks.now p → (a : ℕ) × IsOpen marks.now a × IsListed before.now a p }

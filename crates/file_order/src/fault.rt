@@ -3,9 +3,9 @@ ghost use Rattle.std.specs.Prelude.{◌≡◌};
 /// Why there is no order of files.
 #[derive(Debug, Drop)]
 pub enum OrderFault {
-    /// The files in these places stand in a circle: each must stand before the one in front of it, and
-    /// the last... 
+    /// The files in these places wait for one another: each for the next, and the last for the first.
     Cycle(Vec<usize>),
+    /// Want of memory.
     Memory,
 }
 

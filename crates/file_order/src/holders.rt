@@ -16,7 +16,12 @@ use std::collections::BTreeMap;
 type Holders<'a> = BTreeMap<&'a [u8], Vec<usize>>;
 
 /// Notes that a place holds a module.
-fn add<'a>(alloc: Global, holders: &mut Holders<'a>, name: &'a [u8], place: usize) -> Result<(), Memory>
+fn add<'a>(
+    alloc: Global,
+    holders: &mut Holders<'a>,
+    name: &'a [u8],
+    place: usize,
+) -> Result<(), Memory>
     ensures here { OnOk result (places_of holders.new name.now ≡ places_of holders.old name.now ++ place ∷ []) }
     ensures others { OnOk result ((other : List ℕ) → other ≢ name.now → places_of holders.new other ≡ places_of holders.old other) }
 {
@@ -31,7 +36,12 @@ fn add<'a>(alloc: Global, holders: &mut Holders<'a>, name: &'a [u8], place: usiz
 }
 
 /// Notes that a place holds the modules of a file.
-fn add_file<'a>(alloc: Global, holders: &mut Holders<'a>, file: &'a File, place: usize) -> Result<(), Memory>
+fn add_file<'a>(
+    alloc: Global,
+    holders: &mut Holders<'a>,
+    file: &'a File,
+    place: usize,
+) -> Result<(), Memory>
     ensures { OnOk result (IsAdded (held_by file.now) place holders.old holders.new) }
 {
     let names = held(alloc, file)?;
@@ -66,7 +76,13 @@ fn join(rows: &mut Rows, places: &[usize], place: usize) -> Result<(), Memory>
 }
 
 /// Adds to the row of a place those that hold the modules which its file uses.
-fn join_file(alloc: Global, rows: &mut Rows, holders: &Holders<'_>, file: &File, place: usize) -> Result<(), Memory>
+fn join_file(
+    alloc: Global,
+    rows: &mut Rows,
+    holders: &Holders<'_>,
+    file: &File,
+    place: usize,
+) -> Result<(), Memory>
     requires { place < length rows.old }
     ensures { OnOk result (IsJoined place (IsUnder holders.now (used_by file.now)) rows.old rows.new) }
 {

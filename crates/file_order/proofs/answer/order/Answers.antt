@@ -18,7 +18,7 @@ pub cycle_from-requires-clause-waits : goal.cycle_from-requires-clause-waits
 cycle_from-requires-clause-waits c =
     let s = c.in_ok-search.search in
     subst (λ (marks : List Bool). (p : ℕ) → IsOpen marks p → (a : ℕ) × IsOpen marks a × IsListed s.before a p) (sym c.deref-in-Some.ensures.value)
-      (open_waits c.in_ok-before.before s.before s.waiting s.marks.items s.order.items c.in_ok-search.ensures)
+    (open_waits c.in_ok-before.before s.before s.waiting s.marks.items s.order.items c.in_ok-search.ensures)
 
 pub returns-in-None : goal.returns-in-None
 returns-in-None c =
@@ -30,11 +30,11 @@ returns-in-None c =
     (λ a b h. (c.in_ok-before.ensures.listed a b).1 h)
     s.order.items
     (ends_least all s.before s.waiting s.marks.items s.order.items c.in_ok-search.ensures
-      (subst (λ (marks : List Bool). (p : ℕ) → is_open marks p ≡ false) c.deref.ensures.value c.in-None.ensures.none)
-      (λ a b h.
-        let must = (c.in_ok-before.ensures.listed a b).0 h in
-        let low = at_within used_by files b must.1.0 must.1.2 in
-        omega (arith, low, c.in_ok-before.ensures.count)))
+    (subst (λ (marks : List Bool). (p : ℕ) → is_open marks p ≡ false) c.deref.ensures.value c.in-None.ensures.none)
+    (λ a b h.
+    let must = (c.in_ok-before.ensures.listed a b).0 h in
+    let low = at_within used_by files b must.1.0 must.1.2 in
+    omega (arith, low, c.in_ok-before.ensures.count)))
 
 pub returns-in_ok-cycle_from-in-Some : goal.returns-in_ok-cycle_from-in-Some
 returns-in_ok-cycle_from-in-Some c =

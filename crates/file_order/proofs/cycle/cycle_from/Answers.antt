@@ -27,7 +27,7 @@ returns-in-Some c =
     let within = here_within rows marks s.walk.items s.seen.items s.here s.invariant in
     let found = visit_is s.seen.items s.here c.index.result.now (Some c.in-Some.first) within c.index.ensures c.in-Some.is in
     cut_is c.cut.result (λ xs. IsCycle (IsOpen marks) (IsListed rows) xs) (drop c.in-Some.first c.deref.result.now) c.cut.ensures
-      (subst (λ (xs : List ℕ). IsCycle (IsOpen marks) (IsListed rows) (drop c.in-Some.first xs)) (sym c.deref.ensures.value) (walking_end rows marks s.walk.items s.seen.items s.here c.in-Some.first s.invariant found))
+    (subst (λ (xs : List ℕ). IsCycle (IsOpen marks) (IsListed rows) (drop c.in-Some.first xs)) (sym c.deref.ensures.value) (walking_end rows marks s.walk.items s.seen.items s.here c.in-Some.first s.invariant found))
 
 pub loop-first-preserved : goal.loop-first-preserved
 loop-first-preserved c =
@@ -36,5 +36,5 @@ loop-first-preserved c =
     let unseen = visit_is s.seen.items s.here c.index.result.now None within c.index.ensures c.in_default.is in
     let long : length s.walk.items ≡ c.len.result = sym s.walk.ok.0 ∙ sym c.len.ensures in
     subst (λ (xs : List ℕ). IsWalking c.args.before.now c.args.marks.now xs (set s.seen.items s.here (Some c.len.result)) c.next-here.result) (sym c.in_ok-push.ensures.items)
-      (subst (λ (k : ℕ). IsWalking c.args.before.now c.args.marks.now (s.walk.items ++ s.here ∷ []) (set s.seen.items s.here (Some k)) c.next-here.result) long
-        (walking_more c.args.before.now c.args.marks.now s.walk.items s.seen.items s.here c.next-here.result s.invariant unseen within c.next-here.ensures))
+    (subst (λ (k : ℕ). IsWalking c.args.before.now c.args.marks.now (s.walk.items ++ s.here ∷ []) (set s.seen.items s.here (Some k)) c.next-here.result) long
+    (walking_more c.args.before.now c.args.marks.now s.walk.items s.seen.items s.here c.next-here.result s.invariant unseen within c.next-here.ensures))

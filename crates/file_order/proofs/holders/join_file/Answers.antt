@@ -17,14 +17,14 @@ loop-name-preserved c =
     let p = c.args.place in
     let found = ap places_in c.get.ensures.value in
     subst (λ (ns : List (List ℕ)). IsJoined p (IsUnder holders ns) c.args.rows.now c.match-get.rows) (sym (names_more names i d c.loop-name-test.true))
-      (elim c.match-get.branch [
-        in-Some+in_ok-join w ↦
+    (elim c.match-get.branch [
+      | in-Some+in_ok-join w ↦
           let same : w.as_slice.result.now ≡ places_of holders name = w.as_slice.ensures.value ∙ ap (λ (o : Option (Bor (Vec ℕ Global))). places_in (option_copied o)) (sym w.in-Some.is) ∙ found in
           under_more holders p name (take i (names_of names)) c.args.rows.now c.loop-name.rows c.match-get.rows c.loop-name.invariant
           (subst (λ (rows : List (List ℕ)). IsJoined p (Contains (places_of holders name)) c.loop-name.rows rows) (sym w.rows-is)
-            (subst (λ (xs : List ℕ). IsJoined p (Contains xs) c.loop-name.rows w.join.new.rows) same w.in_ok-join.ensures))
+          (subst (λ (xs : List ℕ). IsJoined p (Contains xs) c.loop-name.rows w.join.new.rows) same w.in_ok-join.ensures))
       | in_default w ↦
           let none : places_of holders name ≡ [] = sym found ∙ ap (λ (o : Option (Bor (Vec ℕ Global))). places_in (option_copied o)) w.in_default.is in
           under_nobody holders p name (take i (names_of names)) c.args.rows.now c.match-get.rows
           (subst (λ (rows : List (List ℕ)). IsJoined p (IsUnder holders (take i (names_of names))) c.args.rows.now rows) (sym w.rows-is) c.loop-name.invariant) none
-      ])
+    ])

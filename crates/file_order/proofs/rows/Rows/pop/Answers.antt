@@ -19,9 +19,9 @@ returns-clause-others c = row_set (λ v. v.items) c.self.inside.rows.items c.arg
 none_left : (len : ℕ) (xs ys : List ℕ) (taken : Option ℕ) → (0 < len → IsSome taken) → len ≡ length xs → xs ≡ ys → IfNone taken (ys ≡ [])
 none_left len xs ys None some e f =
     ⊎_elim
-      (λ (more : 0 < len). let never : IsSome {T = ℕ} None = some more in cc)
-      (λ (none : len ≤ 0). sym f ∙ nil_from_length xs (omega (arith, e)))
-      (cases_lt 0 len)
+    (λ (more : 0 < len). let never : IsSome {T = ℕ} None = some more in cc)
+    (λ (none : len ≤ 0). sym f ∙ nil_from_length xs (omega (arith, e)))
+    (cases_lt 0 len)
 none_left len xs ys (Some x) some e f = tt
 
 pub returns-clause-none : goal.returns-clause-none

@@ -26,13 +26,14 @@ returns-in-None-clause-found c =
     let s = c.loop-place.self in
     let m = c.deref-then-opened.ensures.value in
     λ all start.
-      let found = popped all s.before s.waiting s.marks.items s.order.items s.candidates c.pop.new.self c.in-Some.place c.in-Some.ensures.taken (c.loop-place.invariant.search all start) in
-      let cut : IsTrimmed s.marks.items s.before c.blocker.new.before = subst (λ (x : List Bool). IsTrimmed x s.before c.blocker.new.before) m c.blocker.ensures.trimmed in
-      let here : is_open s.marks.items c.in-Some.place ≡ true = ap (λ (x : List Bool). is_open x c.in-Some.place) (sym c.deref.ensures.value) ∙ sym c.opened.ensures ∙ c.if-opened.true in
-      (trimmed all s.before s.waiting s.marks.items s.order.items _ c.blocker.new.before cut found,
+    let found = popped all s.before s.waiting s.marks.items s.order.items s.candidates c.pop.new.self c.in-Some.place c.in-Some.ensures.taken (c.loop-place.invariant.search all start) in
+    let cut : IsTrimmed s.marks.items s.before c.blocker.new.before = subst (λ (x : List Bool). IsTrimmed x s.before c.blocker.new.before) m c.blocker.ensures.trimmed in
+    let here : is_open s.marks.items c.in-Some.place ≡ true = ap (λ (x : List Bool). is_open x c.in-Some.place) (sym c.deref.ensures.value) ∙ sym c.opened.ensures ∙ c.if-opened.true in (
+      trimmed all s.before s.waiting s.marks.items s.order.items _ c.blocker.new.before cut found,
       here,
       is_next all s.before s.waiting s.marks.items s.order.items c.pop.new.self c.in-Some.place found c.in-Some.ensures.least here
-      (λ a h. ap (λ (x : List Bool). is_open x a) (sym m) ∙ c.in-None.ensures.none a h))
+          (λ a h. ap (λ (x : List Bool). is_open x a) (sym m) ∙ c.in-None.ensures.none a h),
+    )
 
 pub loop-place-preserved : goal.loop-place-preserved
 loop-place-preserved c =

@@ -12,11 +12,11 @@ returns-clause-taken c = λ all.
     let new : Search = record { marks = with_item s.marks p false; before = s.before; waiting = c.release.new.waiting; candidates = c.release.new.candidates; order = c.push.new.self } in
     takes all p s new c.release.result
     (on_both c.release.result
-      (IsReleased p s.waiting c.release.new.waiting s.candidates c.release.new.candidates)
-      (row_at c.release.new.waiting p ≡ [])
-      (FindsNext all s (Some p) → IsSearch all s.before c.release.new.waiting (set s.marks.items p false) c.release.new.candidates c.push.new.self.items)
-      c.release.ensures.released
-      c.release.ensures.none
-      (λ released none found.
-        subst (λ (o : List ℕ). IsSearch all s.before c.release.new.waiting (set s.marks.items p false) c.release.new.candidates o) (sym c.in_ok-push.ensures.items)
-        (taken all s.before s.waiting s.marks.items s.order.items s.candidates p found.0 found.2 c.release.new.waiting c.release.new.candidates released none)))
+    (IsReleased p s.waiting c.release.new.waiting s.candidates c.release.new.candidates)
+    (row_at c.release.new.waiting p ≡ [])
+    (FindsNext all s (Some p) → IsSearch all s.before c.release.new.waiting (set s.marks.items p false) c.release.new.candidates c.push.new.self.items)
+    c.release.ensures.released
+    c.release.ensures.none
+    (λ released none found.
+    subst (λ (o : List ℕ). IsSearch all s.before c.release.new.waiting (set s.marks.items p false) c.release.new.candidates o) (sym c.in_ok-push.ensures.items)
+    (taken all s.before s.waiting s.marks.items s.order.items s.candidates p found.0 found.2 c.release.new.waiting c.release.new.candidates released none)))

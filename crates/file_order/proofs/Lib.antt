@@ -5,5 +5,6 @@ pub mod Heaps
 pub mod HolderLemmas
 pub mod Lists
 pub mod RowLemmas
+pub mod Samples
 pub mod SearchLemmas
 pub mod WalkLemmas

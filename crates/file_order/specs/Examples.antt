@@ -7,7 +7,7 @@ use Rattle.ast_nodes.specs.declared.file.Unit.TheVariants.{Program, Module}
 
 -- use NAME
 abbrev pub uses : List ℕ → Decl
-uses name = decl.Use (record { line = 2; module = name; only = 0; renames = [] })
+uses name = decl.Use (record { line = 2; «module» = name; only = 0; renames = [] })
 
 -- program p, use m, end program; and module m, end module
 abbrev pub user_first : List File

@@ -30,19 +30,22 @@ user_free a h =
     omega (arith, low, other)
 
 greedy : IsGreedy 2 (MustPrecede user_first) (1 ∷ 0 ∷ [])
-greedy zero within =
-    (record { below = omega arith; new = λ h. not_in_none 1 h; met = λ a h. absurd (holder_free a h) },
-    λ q ready.
+greedy zero within = (
+  record { below = omega arith; new = λ h. not_in_none 1 h; met = λ a h. absurd (holder_free a h) },
+  λ q ready.
       ⊎_elim
-        (λ (same : q ≡ 0). absurd (not_in_none 1 (ready.met 1 (subst (λ (x : ℕ). MustPrecede user_first 1 x) (sym same) user_waits))))
-        (λ (other : q ≢ 0). omega (arith, other))
-        (cases_eq q 0))
-greedy (suc zero) within =
-    (record {
-      below = omega arith;
-      new = λ h. absurd (once_of h);
-      met = λ a h. subst (λ (x : ℕ). Contains (1 ∷ []) x) (sym (user_free a h)) (contains_first 1 []);
-    }, λ q ready. omega arith)
+      (λ (same : q ≡ 0). absurd (not_in_none 1 (ready.met 1 (subst (λ (x : ℕ). MustPrecede user_first 1 x) (sym same) user_waits))))
+      (λ (other : q ≢ 0). omega (arith, other))
+      (cases_eq q 0),
+)
+greedy (suc zero) within = (
+  record {
+    below = omega arith;
+    new = λ h. absurd (once_of h);
+    met = λ a h. subst (λ (x : ℕ). Contains (1 ∷ []) x) (sym (user_free a h)) (contains_first 1 []);
+  },
+  λ q ready. omega arith,
+)
   where
     once_of : Contains {X = ℕ} (1 ∷ []) 0 → ⊥
     once_of (zero, less, here) = absurd (omega (arith, here))
@@ -52,11 +55,11 @@ greedy (suc (suc k)) within = absurd (omega (arith, within))
 all_in : (p : ℕ) → p < 2 → Contains (1 ∷ 0 ∷ []) p
 all_in p below =
     ⊎_elim
-      (λ (same : p ≡ 0). subst (λ (x : ℕ). Contains (1 ∷ 0 ∷ []) x) (sym same) (contains_rest 1 (0 ∷ []) 0 (contains_first 0 [])))
-      (λ (other : p ≢ 0).
-          let is : 1 ≡ p = omega (arith, other) in
-          subst (λ (x : ℕ). Contains (1 ∷ 0 ∷ []) x) is (contains_first 1 (0 ∷ [])))
-      (cases_eq p 0)
+    (λ (same : p ≡ 0). subst (λ (x : ℕ). Contains (1 ∷ 0 ∷ []) x) (sym same) (contains_rest 1 (0 ∷ []) 0 (contains_first 0 [])))
+    (λ (other : p ≢ 0).
+    let is : 1 ≡ p = omega (arith, other) in
+    subst (λ (x : ℕ). Contains (1 ∷ 0 ∷ []) x) is (contains_first 1 (0 ∷ [])))
+    (cases_eq p 0)
 
 pub user_first_order : IsLeastFileOrder user_first (1 ∷ 0 ∷ [])
 user_first_order = greedy_least 2 (MustPrecede user_first) (1 ∷ 0 ∷ []) greedy all_in (λ a b h. at_within used_by user_first b h.1.0 h.1.2)

@@ -36,8 +36,8 @@ returns-in-None c =
     let low = at_within used_by files b must.1.0 must.1.2 in
     omega (arith, low, c.in_ok-before.ensures.count)))
 
-pub returns-in_ok-cycle_from-in-Some : goal.returns-in_ok-cycle_from-in-Some
-returns-in_ok-cycle_from-in-Some c =
+pub returns-in_ok-cycle-in-Some : goal.returns-in_ok-cycle-in-Some
+returns-in_ok-cycle-in-Some c =
     let files = c.args.files.now in
     let all = c.in_ok-before.before in
     let s = c.in_ok-search.search in
@@ -49,4 +49,4 @@ returns-in_ok-cycle_from-in-Some c =
     (λ a b o h. (c.in_ok-before.ensures.listed a b).0 (whole.rows.listed a b h))
     (λ a b o h. whole.rows.kept a b ((c.in_ok-before.ensures.listed a b).1 h) o)
     _
-    (subst (λ (marks : List Bool). IsCycle (IsOpen marks) (IsListed s.before) c.in_ok-cycle_from-in-Some.field-0.items) c.deref-in-Some.ensures.value c.in_ok-cycle_from-in-Some.ensures)
+    (subst (λ (marks : List Bool). IsCycle (IsOpen marks) (IsListed s.before) c.in_ok-cycle-in-Some.cycle.items) c.deref-in-Some.ensures.value c.in_ok-cycle-in-Some.ensures)

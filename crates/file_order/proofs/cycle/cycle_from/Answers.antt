@@ -1,8 +1,8 @@
-use Rattle.std.proofs.Common.{◌≡◌, ◌≤◌, ◌<◌, ◌∙◌, ◌++◌, ◌∷◌, [], sym, ap, subst, set, length, List, ℕ, Option, Some, None, Result, Ok, Err, IfOk, Vec, Global, drop, arith}
+use Rattle.std.proofs.Common.{◌≡◌, ◌∙◌, ◌++◌, ◌∷◌, [], sym, ap, subst, set, length, List, ℕ, Some, None, Result, Ok, Err, IfOk, Vec, Global, drop, arith}
 use Rattle.lf_base.specs.declared.fault.Memory.{Memory}
 use Rattle.file_order.specs.Cycles.{IsCycle}
 use Rattle.file_order.specs.Search.{IsOpen, IsListed}
-use Rattle.file_order.specs.Walks.{first_visit, IsWalking}
+use Rattle.file_order.specs.Walks.{IsWalking}
 use Rattle.file_order.proofs.WalkLemmas.{here_within, visit_is, walking_more, walking_end}
 use Rattle.file_order.proofs.cycle.cycle_from.Goals as goal
 

@@ -1,4 +1,4 @@
-use Rattle.std.proofs.Common.{◌∙◌, ◌≡◌, sym, ap, subst, List, ℕ, [], Bor, take}
+use Rattle.std.proofs.Common.{◌∙◌, sym, ap, subst, List, ℕ, [], Bor, take}
 use Rattle.file_order.specs.Modules.{names_of}
 use Rattle.file_order.specs.Holders.{IsAdded}
 use Rattle.file_order.proofs.HolderLemmas.{added_more, names_more, names_all}

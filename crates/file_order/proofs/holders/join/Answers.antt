@@ -1,4 +1,4 @@
-use Rattle.std.proofs.Common.{◌∙◌, sym, ap, subst, List, ℕ, take, get_or, arith}
+use Rattle.std.proofs.Common.{◌∙◌, sym, subst, List, ℕ, take, get_or, arith}
 use Rattle.std.specs.List.{Contains}
 use Rattle.std.proofs.lemmas.List.{take_more}
 use Rattle.file_order.specs.Holders.{IsJoined}

@@ -3,7 +3,7 @@ use Rattle.std.specs.List.{Contains}
 use Rattle.std.specs.Option.{option_copied}
 use Rattle.file_order.specs.Modules.{names_of}
 use Rattle.file_order.specs.Holders.{IsJoined, IsUnder, places_in, places_of}
-use Rattle.file_order.proofs.HolderLemmas.{under_more, under_nobody, names_more, names_all}
+use Rattle.file_order.proofs.HolderLemmas.{under_more, under_nobody, names_more}
 use Rattle.file_order.proofs.holders.join_file.Goals as goal
 use Rattle.file_order.proofs.holders.join_file.Goals.{in-Some+in_ok-join, in_default}
 

@@ -1,5 +1,5 @@
 use Rattle.std.proofs.Common.{arith}
-use Rattle.file_order.proofs.HolderLemmas.{rowed_none, rowed_more, rowed_all}
+use Rattle.file_order.proofs.HolderLemmas.{rowed_more, rowed_all}
 use Rattle.file_order.proofs.holders.predecessors.Goals as goal
 
 pub loop-place-preserved : goal.loop-place-preserved

@@ -1,7 +1,7 @@
-use Rattle.std.proofs.Common.{◌≡◌, ◌∙◌, ◌++◌, ◌∷◌, [], sym, ap, length, arith}
+use Rattle.std.proofs.Common.{◌∙◌, sym, ap, length, arith}
 use Rattle.std.proofs.lemmas.List.{length_push}
 use Rattle.file_order.specs.Search.{row_at}
-use Rattle.file_order.proofs.SearchLemmas.{last_in, popped_last, trimmed_none, trimmed_pop, trimmed_all}
+use Rattle.file_order.proofs.SearchLemmas.{last_in, popped_last, trimmed_pop, trimmed_all}
 use Rattle.file_order.proofs.search.blocker.Goals as goal
 
 pub returns-then-opened-clause-some : goal.returns-then-opened-clause-some

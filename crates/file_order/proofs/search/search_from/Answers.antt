@@ -1,6 +1,5 @@
-use Rattle.std.proofs.Common.{◌≡◌, ◌∙◌, ◌↔◌, ◌<◌, ap, subst, List, ℕ, length, replicate, [], true}
+use Rattle.std.proofs.Common.{◌∙◌, ◌↔◌, ◌<◌, ap, subst, List, ℕ, replicate, [], true}
 use Rattle.std.specs.List.{Contains}
-use Rattle.file_order.specs.Search.{IsSearch}
 use Rattle.file_order.proofs.SearchLemmas.{begins_with}
 use Rattle.file_order.proofs.search.search_from.Goals as goal
 

@@ -1,4 +1,4 @@
-use Rattle.std.specs.Prelude.{◌≡◌, List, ℕ, [], map, replicate}
+use Rattle.std.specs.Prelude.{◌≡◌, [], map, replicate}
 use Rattle.file_order.proofs.rows.Rows.new.Given as goal
 
 abbrev pub invariant-loop-place : goal.invariant-loop-place

@@ -1,4 +1,4 @@
-use Rattle.std.proofs.Common.{◌≡◌, ◌∙◌, sym, ap, subst, List, ℕ, Bool, true, arith}
+use Rattle.std.proofs.Common.{◌≡◌, ◌∙◌, sym, ap, subst, List, Bool, true}
 use Rattle.file_order.specs.Search.{IsTrimmed, is_open}
 use Rattle.file_order.proofs.SearchLemmas.{popped, passed, trimmed, waits, is_next}
 use Rattle.file_order.proofs.search.Search.next.Goals as goal

@@ -1,7 +1,7 @@
-use Rattle.std.proofs.Common.{◌≡◌, set, false, ◌++◌, ◌∷◌, [], Some, sym, subst, List, ℕ}
+use Rattle.std.proofs.Common.{◌≡◌, set, false, [], Some, sym, subst, List, ℕ}
 use Rattle.std.specs.Vec.{with_item}
 use Rattle.file_order.specs.declared.search.Search.{Search}
-use Rattle.file_order.specs.Search.{IsReleased, row_at, IsSearch, IsSearchWith, FindsNext}
+use Rattle.file_order.specs.Search.{IsReleased, row_at, IsSearch, FindsNext}
 use Rattle.file_order.proofs.SearchLemmas.{takes, on_both, taken}
 use Rattle.file_order.proofs.search.Search.take.Goals as goal
 

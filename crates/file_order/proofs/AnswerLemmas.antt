@@ -1,6 +1,5 @@
 -- The same answers for equal conditions.
 use Rattle.std.proofs.Common.{◌≡◌, ◌<◌, ℕ, List, sym, subst}
-use Rattle.std.specs.List.{Contains}
 use Rattle.file_order.specs.Orders.{IsValidOrder, IsLeastOrder}
 use Rattle.file_order.specs.Cycles.{IsStuck}
 

@@ -1,14 +1,13 @@
 -- Where no place is stuck, the places have an order.
-use Rattle.std.proofs.Common.{◌≡◌, ◌≢◌, ◌<◌, ◌≤◌, ◌+◌, ◌⊎◌, inl, inr, ⊎_elim, ℕ, zero, suc, Bool, true, false, ◌||◌, eqb, List, [], ◌∷◌, ◌++◌, length, get_or, sym, ◌∙◌, ap, subst, refl, arith}
+use Rattle.std.proofs.Common.{◌≡◌, ◌≢◌, ◌<◌, ◌≤◌, ◌+◌, ◌⊎◌, inl, inr, ⊎_elim, ℕ, zero, suc, Bool, true, false, ◌||◌, eqb, List, [], ◌∷◌, ◌++◌, length, get_or, sym, ◌∙◌, subst, refl, arith}
 use Rattle.std.specs.List.{Contains, list_any}
-use Rattle.std.proofs.lemmas.Bool.{cases_eq, cases_lt, cases_Bool}
+use Rattle.std.proofs.lemmas.Bool.{cases_eq, cases_lt}
 use Rattle.std.proofs.lemmas.Bool.Decides.{nat_tests}
 use Rattle.std.proofs.lemmas.List.{length_push, get_or_default}
-use Rattle.std.proofs.lemmas.List.Elements.{Contains-push}
 use Rattle.std.proofs.lemmas.Map.Keys.{IsDistinct-from_apart}
 use Rattle.std.proofs.lemmas.Map.Steps.{length-le_from_distinct_below}
 use Rattle.file_order.specs.Orders.{IsOnce, IsLeastOrder}
-use Rattle.file_order.specs.Cycles.{IsLeastOf, IsClosed, IsStuck}
+use Rattle.file_order.specs.Cycles.{IsLeastOf, IsStuck}
 use Rattle.file_order.specs.Search.{IsReady, IsGreedy}
 use Rattle.ast_nodes.specs.declared.file.File.{File}
 use Rattle.file_order.specs.Laws.{HasOrderOrStuck}

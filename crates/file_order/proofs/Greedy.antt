@@ -1,9 +1,9 @@
 -- A list in which each place is the least that may come is the least valid order, and has no stuck place.
-use Rattle.std.proofs.Common.{◌≡◌, ◌<◌, ◌≤◌, ◌+◌, ℕ, zero, suc, Bool, true, List, [], ◌∷◌, ◌++◌, length, get_or, take, sym, refl, ◌∙◌, ap, subst, inl, inr, ◌⊎◌, ⊎_elim, arith}
+use Rattle.std.proofs.Common.{◌≡◌, ◌<◌, ◌≤◌, ℕ, zero, suc, Bool, true, List, [], ◌∷◌, ◌++◌, length, get_or, take, sym, refl, ◌∙◌, ap, subst, inl, inr, ⊎_elim, arith}
 use Rattle.std.specs.List.{Contains}
 use Rattle.std.proofs.lemmas.Bool.{cases_lt}
 use Rattle.std.proofs.lemmas.List.{get_or_append_left, take-append-le, take_at, get_or_push, length_push, append_assoc, length-append, get_or_at, append-nil}
-use Rattle.file_order.specs.Orders.{StandsAt, StandsBefore, IsOnce, IsValidOrder, IsNotAbove, IsLeastOrder}
+use Rattle.file_order.specs.Orders.{StandsAt, IsOnce, IsValidOrder, IsNotAbove, IsLeastOrder}
 use Rattle.file_order.specs.Cycles.{IsLeastOf, IsClosed, IsStuck}
 use Rattle.file_order.specs.Search.{IsReady, IsGreedy}
 use Rattle.file_order.proofs.Lists.{contains_at, at_contains, in_front, from_front}

@@ -1,13 +1,13 @@
 -- What is noted of the places that hold a module.
-use Rattle.std.proofs.Common.{◌≡◌, ◌≢◌, ◌↔◌, ◌<◌, ◌≤◌, ◌+◌, ◌⊎◌, inl, inr, ⊎_elim, ℕ, Bool, true, false, cond, Option, Some, Vec, Global, Bor, List, [], ◌∷◌, ◌++◌, length, get_or, set, take, map, replicate, sym, ◌∙◌, ap, subst, refl, arith}
-use Rattle.std.specs.BTreeMap.{BTreeMap, UpdatesBy, get_by}
+use Rattle.std.proofs.Common.{◌≡◌, ◌≢◌, ◌↔◌, ◌<◌, ◌≤◌, ◌+◌, ◌⊎◌, inl, inr, ⊎_elim, ℕ, Bool, true, false, cond, Option, Vec, Global, Bor, List, [], ◌∷◌, ◌++◌, length, get_or, set, take, map, replicate, sym, ◌∙◌, ap, subst, refl, arith}
+use Rattle.std.specs.BTreeMap.{UpdatesBy, get_by}
 use Rattle.std.specs.Cmp.Lexicographic.{slice_cmp}
 use Rattle.std.specs.List.{Contains}
 use Rattle.std.specs.Ordering.{nat_cmp}
 use Rattle.std.specs.Str.{bytes_eq}
 use Rattle.std.proofs.lemmas.Bool.{cases_eq, cases_lt, cases_Bool}
-use Rattle.std.proofs.lemmas.List.{get_or-set_same, get_or-set_other, length-set, get_or-map, length-map, get_or_past, get_or-replicate, length-replicate, take_more, take_all}
-use Rattle.std.proofs.lemmas.List.Elements.{Contains-append_left, Contains-append_right, Contains-push, Contains-push_cases}
+use Rattle.std.proofs.lemmas.List.{get_or-set_same, length-set, get_or-map, length-map, get_or_past, get_or-replicate, length-replicate, take_more, take_all}
+use Rattle.std.proofs.lemmas.List.Elements.{Contains-append_left, Contains-push, Contains-push_cases}
 use Rattle.std.proofs.lemmas.Map.Text.{btree_map_updates_str}
 use Rattle.std.proofs.lemmas.Slice.Eq.{bytes_eq-Decides}
 use Rattle.ast_nodes.specs.declared.file.File.{File}

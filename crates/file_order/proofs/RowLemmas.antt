@@ -1,6 +1,6 @@
 -- A row that is changed, by the vectors that hold the rows.
-use Rattle.std.proofs.Common.{◌≡◌, ◌<◌, ℕ, List, [], ◌++◌, length, get_or, set, map, sym, ◌∙◌, ap, refl, arith}
-use Rattle.std.proofs.lemmas.List.{get_or_default, get_or-map, map-set, length-map, get_or-set_same}
+use Rattle.std.proofs.Common.{◌≡◌, ◌<◌, ℕ, List, [], length, get_or, set, map, sym, ◌∙◌, ap, refl, arith}
+use Rattle.std.proofs.lemmas.List.{get_or-map, map-set, length-map, get_or-set_same}
 use Rattle.file_order.specs.Search.{row_at}
 
 module _ {X : Type 0} (f : X → List ℕ) where

@@ -1,14 +1,13 @@
 -- The small projects.
-use Rattle.std.proofs.Common.{◌≡◌, ◌≢◌, ◌<◌, ◌≤◌, ◌+◌, ◌⊎◌, ⊎_elim, ℕ, zero, suc, Bool, true, false, get_or, List, [], ◌∷◌, length, sym, ◌∙◌, ap, subst, refl, arith, codes}
+use Rattle.std.proofs.Common.{◌≡◌, ◌≢◌, ◌<◌, ◌+◌, ⊎_elim, ℕ, zero, suc, Bool, true, false, get_or, List, [], ◌∷◌, sym, subst, refl, arith, codes}
 use Rattle.std.specs.List.{Contains}
-use Rattle.std.proofs.lemmas.Bool.{cases_eq, cases_lt}
-use Rattle.std.proofs.lemmas.Bool.Decides.{nat_tests}
+use Rattle.std.proofs.lemmas.Bool.{cases_eq}
 use Rattle.file_order.specs.Answers.{IsLeastFileOrder, IsNamedCycle}
 use Rattle.file_order.specs.Cycles.{IsLeastOf, IsClosed, IsStuck, IsWalk}
 use Rattle.file_order.specs.Examples.{user_first, circle}
-use Rattle.file_order.specs.Modules.{MustPrecede, at_place, held_by, used_by}
+use Rattle.file_order.specs.Modules.{MustPrecede, held_by, used_by}
 use Rattle.file_order.specs.Orders.{IsOnce}
-use Rattle.file_order.specs.Search.{IsReady, IsGreedy}
+use Rattle.file_order.specs.Search.{IsGreedy}
 use Rattle.file_order.proofs.Greedy.{greedy_least}
 use Rattle.file_order.proofs.HolderLemmas.{at_within}
 use Rattle.file_order.proofs.Lists.{contains_first, contains_rest, not_in_none}

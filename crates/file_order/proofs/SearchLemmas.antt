@@ -1,5 +1,5 @@
 -- The steps of a search.
-use Rattle.std.proofs.Common.{◌≡◌, ◌≢◌, ◌↔◌, ◌<◌, ◌≤◌, ◌+◌, ◌⊎◌, inl, inr, ⊎_elim, ℕ, Option, Some, None, IfNone, Result, Ok, Err, OnOk, Bool, true, false, List, [], ◌∷◌, ◌++◌, length, get_or, set, take, replicate, sym, ◌∙◌, ap, subst, refl, arith}
+use Rattle.std.proofs.Common.{◌≡◌, ◌≢◌, ◌↔◌, ◌<◌, ◌≤◌, ◌+◌, ◌⊎◌, inl, inr, ⊎_elim, ℕ, Option, Some, None, IfNone, Result, Ok, Err, OnOk, Bool, true, false, List, [], ◌∷◌, ◌++◌, length, set, replicate, sym, ◌∙◌, ap, subst, refl, arith}
 use Rattle.std.specs.List.{Contains, All}
 use Rattle.std.specs.List.Sorted.{IsPermutation}
 use Rattle.std.specs.Option.{option_to_list}
@@ -11,7 +11,7 @@ use Rattle.lf_base.specs.declared.fault.Memory.{Memory}
 use Rattle.file_order.specs.declared.search.Search.{Search}
 use Rattle.file_order.specs.Orders.{IsLeastOrder}
 use Rattle.file_order.specs.Cycles.{IsLeastOf, IsStuck}
-use Rattle.file_order.specs.Search.{row_at, is_open, IsListed, IsOpen, IsTrimmed, IsReleased, IsReady, IsGreedy, IsSearch, IsWaiting, IsSearchWith, FindsNext, Takes}
+use Rattle.file_order.specs.Search.{row_at, is_open, IsListed, IsOpen, IsTrimmed, IsReleased, IsReady, IsSearch, IsWaiting, IsSearchWith, FindsNext, Takes}
 use Rattle.file_order.proofs.Lists.{contains_cons, contains_first, contains_rest, not_in_none}
 use Rattle.file_order.proofs.Greedy.{greedy_none, greedy_push, greedy_not_stuck, greedy_least, stuck_below}
 

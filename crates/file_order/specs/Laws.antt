@@ -20,3 +20,7 @@ HasOrderOrStuck files = ((order : List ℕ) × IsLeastFileOrder files order) ⊎
 -- Not both.
 abbrev pub HasNotBoth : List File → Type 0
 HasNotBoth files = (order : List ℕ) (p : ℕ) → IsValidFileOrder files order → IsStuckFile files p → ⊥
+
+-- The stuck files are such a set themselves, and so the greatest.
+abbrev pub AreStuckTogether : List File → Type 0
+AreStuckTogether files = (p : ℕ) → IsStuckFile files p → (a : ℕ) × IsStuckFile files a × MustPrecede files a p

@@ -1,5 +1,5 @@
 -- Which modules a file holds and which it uses (ISO/IEC 1539-1:2018, 14.2.1 and 14.2.2), and which file must stand before which.
-use Rattle.std.specs.Prelude.{◌≡◌, ◌≢◌, ℕ, List, [], ◌∷◌, ◌++◌, map}
+use Rattle.std.specs.Prelude.{◌≢◌, ℕ, List, [], ◌∷◌, ◌++◌, map}
 use Rattle.std.specs.Borrow.{Bor}
 use Rattle.std.specs.List.{Contains, flat_map, slice_index_or}
 use Rattle.ast_nodes.specs.declared.declaration.Decl.{Decl}

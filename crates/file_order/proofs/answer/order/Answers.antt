@@ -1,4 +1,4 @@
-use Rattle.std.proofs.Common.{◌≡◌, ◌<◌, ◌∙◌, sym, ap, subst, ℕ, List, Bool, false, length, arith}
+use Rattle.std.proofs.Common.{◌≡◌, sym, subst, ℕ, List, Bool, false, length, arith}
 use Rattle.file_order.specs.Cycles.{IsStuck, IsCycle}
 use Rattle.file_order.specs.Modules.{MustPrecede, held_by, used_by}
 use Rattle.file_order.specs.Search.{IsOpen, IsListed, is_open}

@@ -1,0 +1,10 @@
+pub mod AnswerLemmas
+pub mod Exists
+pub mod Greedy
+pub mod Heaps
+pub mod HolderLemmas
+pub mod Lists
+pub mod RowLemmas
+pub mod Samples
+pub mod SearchLemmas
+pub mod WalkLemmas

@@ -1,0 +1,9 @@
+pub mod Examples
+pub mod Holders
+pub mod Laws
+pub mod Modules
+pub mod Orders
+pub mod Answers
+pub mod Cycles
+pub mod Search
+pub mod Walks

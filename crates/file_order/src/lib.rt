@@ -1,0 +1,15 @@
+//! The order in which files compile: each behind the files that hold the modules which it uses.
+#![tactic(auto)]
+
+mod answer;
+mod candidates;
+mod cycle;
+mod fault;
+mod holders;
+pub mod law;
+mod rows;
+mod search;
+mod uses;
+
+pub use answer::order;
+pub use fault::OrderFault;

@@ -1,0 +1,5 @@
+pub mod Disk
+pub mod DiskStore
+pub mod Faults
+pub mod Names
+pub mod Streams

@@ -1,2 +1,4 @@
+pub mod Disks
 pub mod Folders
 pub mod Streams
+pub mod Users

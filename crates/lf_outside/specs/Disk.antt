@@ -101,6 +101,13 @@ abbrev pub AllGone : Option (List Step) → Option (List ℕ) → Type 0
 AllGone steps None = Unit {0}
 AllGone steps (Some name) = Gone steps name
 
+-- The file of a temporary name stands under a name, and all its bytes were synced first.
+abbrev pub AllPublished : Option (List Step) → Option (List Step) → Option (List ℕ) → Option (List ℕ) → Type 0
+AllPublished None new temporary name = new ≡ None
+AllPublished (Some steps) new None name = Unit {0}
+AllPublished (Some steps) new (Some temporary) None = Unit {0}
+AllPublished (Some steps) new (Some temporary) (Some name) = (bytes : List ℕ) × (bytes_in steps temporary ≡ Some bytes) × (new ≡ Some (Renamed temporary name bytes ∷ Synced temporary bytes ∷ steps))
+
 -- what a reader's bytes make of an answer
 abbrev pub GivesWhole : {V : Type 0} → (V → List ℕ) → Option (List ℕ) → Result V GetFault → Type 0
 GivesWhole bytes None result = Unit {0}

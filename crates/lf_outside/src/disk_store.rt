@@ -1,10 +1,11 @@
 //! The files of a disk as a store. What it is given goes to a temporary file in the folder of the pending one,
 //! which takes the place of the older file only as a whole.
-ghost use Rattle.std.specs.Prelude.{◌≡◌, ◌≤◌, ◌+◌, ◌^◌, true, false, None, refl, Some, IfOk, OnOk, OnErr, MatchOption, string_bytes, length, ◌↔◌, IsTrue};
-ghost use Rattle.lf_base.specs.Files.{ReadGives, Begins};
+ghost use Rattle.std.specs.Prelude.{◌≡◌, ◌≤◌, ◌+◌, ◌↔◌, true, false, None, refl, [], take, length, IsTrue, IsSome, IfOk, OnOk, OnErr, MatchOption, string_bytes};
+ghost use Rattle.lf_base.specs.Files.{ReadGives, Begins, Finishes};
+ghost use Rattle.lf_base.specs.Causes.{HasCause};
 ghost use Rattle.lf_base.specs.Contents.{Appends, AppendsPart};
 ghost use Rattle.lf_outside.specs.Names.{is_own};
-ghost use Rattle.lf_outside.specs.Disk.{told, held, Removes, Publishes, GivesWhole, Gone, AllGone};
+ghost use Rattle.lf_outside.specs.Disk.{told, held, Removes, Publishes, GivesWhole, Gone, AllGone, AllPublished};
 ghost use Rattle.lf_outside.specs.Faults.{put_fault_of};
 ghost use Rattle.lf_outside.specs.DiskStore.{name_of, temporary_of, contents_of, Keeps, keeps_same_lem, keeps_further_lem, tells_pending_lem, tells_none_lem};
 
@@ -153,6 +154,7 @@ fn write_some<D: Disk>(
 }
 
 // Writes the whole piece to the end of a file. Where the disk fails, a front of it is written.
+#[tactic(auto, using(crate::proofs::Streams::streams))]
 fn write_all<D: Disk>(
     disk: &mut D,
     file: &mut D::Written,
@@ -191,12 +193,8 @@ fn append<D: Disk>(
         return Err(Failed);
     }
     pending.written += piece.len() as u64;
-    write_all(
-        disk,
-        &mut pending.temporary.file,
-        pending.temporary.name.as_str(),
-        piece,
-    )
+    let temporary = &mut pending.temporary;
+    write_all(disk, &mut temporary.file, temporary.name.as_str(), piece)
 }
 
 // Gives a file the permissions of the one whose place it is to take, where there is one.
@@ -213,15 +211,15 @@ fn keep_mode<D: Disk>(disk: &mut D, file: &mut D::Written, name: &str) -> io::Re
 // Puts a file in the place of its name, once all of it is on the device.
 fn publish<D: Disk>(
     disk: &mut D,
-    file: &mut D::Written,
-    temporary: &str,
+    temporary: &mut Temporary<D::Written>,
     name: &str,
 ) -> io::Result<()>
-    ensures { Publishes (D.history disk.old) (D.history disk.new) temporary.now name.now result }
+    ensures name { temporary.new.name ≡ temporary.old.name }
+    ensures publishes { Publishes (D.history disk.old) (D.history disk.new) (string_bytes temporary.old.name) name.now result }
 {
-    keep_mode(disk, file, name)?;
-    disk.sync(file, temporary)?;
-    disk.rename(temporary, name)
+    keep_mode(disk, &mut temporary.file, name)?;
+    disk.sync(&mut temporary.file, temporary.name.as_str())?;
+    disk.rename(temporary.name.as_str(), name)
 }
 
 // Removes a temporary file, where the disk lets it.
@@ -344,19 +342,29 @@ impl<D: Disk> Store for DiskStore<D> {
         }
     }
 
-    fn finish(&mut self) -> Result<(), PutFault> {
-        let Some(mut pending) = self.pending.take() else {
+    fn finish(&mut self) -> Result<(), PutFault>
+        requires { IsSome (name_of self.old.pending) }
+        ensures ok { OnOk result (Finishes (told (D.history self.old.disk)) (name_of self.old.pending) (contents_of (D.history self.old.disk) self.old.pending) (told (D.history self.new.disk))) }
+        ensures err { OnErr result (told (D.history self.new.disk) ≡ told (D.history self.old.disk)) }
+        ensures pending { name_of self.new.pending ≡ None }
+        ensures read_faults { self.new.read_faults ≡ self.old.read_faults }
+        ensures cause { HasCause true true self.old.faults self.new.faults result }
+        ensures published { OnOk result (AllPublished (D.history self.old.disk) (D.history self.new.disk) (temporary_of self.old.pending) (name_of self.old.pending)) }
+        ensures gone { OnErr result (AllGone (D.history self.new.disk) (temporary_of self.old.pending)) }
+    {
+        let Some(pending) = self.pending.take() else {
             unreachable!()
         };
-        match publish(
-            &mut self.disk,
-            &mut pending.temporary.file,
-            pending.temporary.name.as_str(),
-            pending.name.as_str(),
-        ) {
+        let PendingFile {
+            name,
+            mut temporary,
+            written: _,
+            limit: _,
+        } = pending;
+        match publish(&mut self.disk, &mut temporary, name.as_str()) {
             Ok(()) => Ok(()),
             Err(_) => {
-                remove(&mut self.disk, pending.temporary.name.as_str());
+                remove(&mut self.disk, temporary.name.as_str());
                 self.faults = self.faults.saturating_add(1);
                 Err(PutFault::Failed)
             }

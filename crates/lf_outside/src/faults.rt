@@ -7,7 +7,8 @@ use std::io::ErrorKind;
 /// What an error means where a file is opened. Only a name that leads to nothing is absent; a file that may not
 /// be read is there.
 pub fn get_fault(kind: ErrorKind) -> GetFault
-    ensures { result ≡ fault_of kind }
+    ensures fault { result ≡ fault_of kind }
+    ensures short { result ≡ GetFault.TooLong → ⊥ }
 {
     match kind {
         ErrorKind::NotFound | ErrorKind::NotADirectory => GetFault::Absent,

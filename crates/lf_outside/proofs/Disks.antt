@@ -1,26 +1,26 @@
 -- What the calls of a disk make of the files that a store over it tells.
-use Rattle.std.proofs.Common.{◌≡◌, ℕ, Bool, true, false, List, [], ◌∷◌, ◌++◌, length, take, Option, Some, None, Result, Ok, Err, ◌⊎◌, inl, inr, refl, sym, ap, subst, ◌∙◌, append-nil, ◌≤◌, arith}
+use Rattle.std.proofs.Common.{◌≡◌, ℕ, true, false, List, [], ◌∷◌, ◌++◌, length, take, Option, Some, None, Result, Ok, Err, inl, inr, refl, sym, ap, subst, ◌∙◌, append-nil, ◌≤◌, arith}
 use Rattle.std.proofs.lemmas.List.{length-take, take_all}
 use Rattle.std.specs.Option.{IfSome, option_map}
 use Rattle.std.specs.FinMap.{get, insert, remove}
 use Rattle.lf_base.specs.Contents.{Appends}
-use Rattle.lf_base.specs.Files.{Files, Begins, Finishes, GivesAt, ReadGives, greatest_file}
+use Rattle.lf_base.specs.Files.{Begins, Finishes, GivesAt, ReadGives}
 use Rattle.lf_base.specs.declared.fault.GetFault.{GetFault}
 use Rattle.lf_base.specs.declared.fault.GetFault.TheVariants as reading
 use Rattle.lf_outside.specs.Names.{is_own}
-use Rattle.lf_outside.specs.Disk.{Step, Wrote, Synced, Renamed, Removed, Stuck, files_in, bytes_in, or_none, users, told, held, Opens, Creates, Writes, Syncs, Renames, Removes, Publishes, Gone, AllGone, AllPublished, GivesWhole}
+use Rattle.lf_outside.specs.Disk.{Step, Synced, Renamed, files_in, bytes_in, or_none, users, told, held, Opens, Creates, Writes, Syncs, Renames, Removes, Publishes, Gone, AllPublished, GivesWhole}
 use Rattle.lf_outside.proofs.Users.{get_plain, get_own, get_put, get_taken, insert_own, remove_own, insert_plain}
 
 module _ (X E : Type 0) where
-  pub removes_told : (old new : Option (List Step)) (name : List ℕ) (r : Result X E) → is_own name ≡ true → Removes old new name r → told new ≡ told old
-  removes_told None new name r own h = ap told h
-  removes_told (Some s) new name (Ok x) own h = ap told h ∙ ap Some (remove_own (files_in s) name own)
-  removes_told (Some s) new name (Err e) own h = ap told h
+  pub removes_told : (old new : Option (List Step)) (stuck stuck' : ℕ) (name : List ℕ) (r : Result X E) → is_own name ≡ true → Removes old new stuck stuck' name r → told new ≡ told old
+  removes_told None new stuck stuck' name r own h = ap told h
+  removes_told (Some s) new stuck stuck' name (Ok x) own h = ap told h ∙ ap Some (remove_own (files_in s) name own)
+  removes_told (Some s) new stuck stuck' name (Err e) own h = ap told h.0
 
-  pub removes_gone : (old new : Option (List Step)) (name : List ℕ) (r : Result X E) → Removes old new name r → Gone new name
-  removes_gone None new name r h = subst (λ n. Gone n name) (sym h) tt
-  removes_gone (Some s) new name (Ok x) h = subst (λ n. Gone n name) (sym h) (inl (get_taken (files_in s) name))
-  removes_gone (Some s) new name (Err e) h = subst (λ n. Gone n name) (sym h) (inr (s, refl))
+  pub removes_gone : (old new : Option (List Step)) (stuck stuck' : ℕ) (name : List ℕ) (r : Result X E) → Removes old new stuck stuck' name r → Gone new stuck stuck' name
+  removes_gone None new stuck stuck' name r h = subst (λ n. Gone n stuck stuck' name) (sym h) tt
+  removes_gone (Some s) new stuck stuck' name (Ok x) h = subst (λ n. Gone n stuck stuck' name) (sym h) (inl (get_taken (files_in s) name))
+  removes_gone (Some s) new stuck stuck' name (Err e) h = subst (λ n. Gone n stuck stuck' name) (sym h.0) (inr h.1)
 
   pub creates_told : (old new : Option (List Step)) (name : List ℕ) (x : X) → is_own name ≡ true → Creates {E = E} old new name (Ok x) → told new ≡ told old
   creates_told None new name x own h = ap told h

@@ -1,7 +1,8 @@
 -- What a disk tells: the calls that changed it, and the files that they made.
-use Rattle.std.specs.Prelude.{◌≡◌, ◌⊎◌, ℕ, ◌≤◌, Bool, true, false, not, List, [], ◌∷◌, ◌++◌, length, take, Option, Some, None, Result, Ok, Err, Contains}
+use Rattle.std.specs.Prelude.{◌≡◌, ◌⊎◌, ℕ, not, List, [], ◌∷◌, ◌++◌, take, Option, Some, None, Result, Ok, Err}
 use Rattle.std.specs.FinMap.{get, insert, remove, empty, retain_keys}
-use Rattle.lf_base.specs.Files.{Files, greatest_file, GivesAt}
+use Rattle.lf_base.specs.Causes.{Rose}
+use Rattle.lf_base.specs.Files.{Files, GivesAt}
 use Rattle.lf_base.specs.declared.fault.GetFault.{GetFault}
 use Rattle.lf_base.specs.declared.fault.GetFault.TheVariants.{Absent}
 use Rattle.lf_outside.specs.Names.{is_own}
@@ -16,8 +17,6 @@ pub data Step : Type 0 where
   Renamed : (from to bytes : List ℕ) → Step
   -- there is no file of this name
   Removed : (name : List ℕ) → Step
-  -- a removal was refused
-  Stuck : (name : List ℕ) → Step
 
 -- The files that calls made of an empty disk, the latest call in front.
 abbrev pub files_in : List Step → Files
@@ -26,7 +25,6 @@ files_in (Wrote name bytes ∷ steps) = insert (files_in steps) name bytes
 files_in (Synced name bytes ∷ steps) = files_in steps
 files_in (Renamed from to bytes ∷ steps) = insert (remove (files_in steps) from) to bytes
 files_in (Removed name ∷ steps) = remove (files_in steps) name
-files_in (Stuck name ∷ steps) = files_in steps
 
 -- the bytes of a file, if there is one
 abbrev pub bytes_in : List Step → List ℕ → Option (List ℕ)
@@ -61,11 +59,11 @@ Renames None new from to result = new ≡ None
 Renames (Some steps) new from to (Ok _) = (bytes : List ℕ) × (bytes_in steps from ≡ Some bytes) × (new ≡ Some (Renamed from to bytes ∷ steps))
 Renames (Some steps) new from to (Err _) = new ≡ Some steps
 
--- a removal, or that it was refused
-abbrev pub Removes : {X E : Type 0} → Option (List Step) → Option (List Step) → List ℕ → Result X E → Type 0
-Removes None new name result = new ≡ None
-Removes (Some steps) new name (Ok _) = new ≡ Some (Removed name ∷ steps)
-Removes (Some steps) new name (Err _) = new ≡ Some (Stuck name ∷ steps)
+-- A removal, or a count of refused ones that rose.
+abbrev pub Removes : {X E : Type 0} → Option (List Step) → Option (List Step) → ℕ → ℕ → List ℕ → Result X E → Type 0
+Removes None new stuck stuck' name result = new ≡ None
+Removes (Some steps) new stuck stuck' name (Ok _) = new ≡ Some (Removed name ∷ steps)
+Removes (Some steps) new stuck stuck' name (Err _) = (new ≡ Some steps) × Rose stuck stuck'
 
 -- The files that a store over the disk tells: all but those under names of the store's own.
 abbrev pub users : Files → Files
@@ -92,14 +90,14 @@ Publishes (Some steps) new temporary name (Ok _) = (bytes : List ℕ) × (bytes_
 Publishes (Some steps) new temporary name (Err _) = (later : List Step) × (new ≡ Some later) × (files_in later ≡ files_in steps)
 
 -- No file of the name is left, unless the disk refused to remove it.
-abbrev pub Gone : Option (List Step) → List ℕ → Type 0
-Gone None name = Unit {0}
-Gone (Some steps) name = (bytes_in steps name ≡ None) ⊎ ((earlier : List Step) × (steps ≡ Stuck name ∷ earlier))
+abbrev pub Gone : Option (List Step) → ℕ → ℕ → List ℕ → Type 0
+Gone None stuck stuck' name = Unit {0}
+Gone (Some steps) stuck stuck' name = (bytes_in steps name ≡ None) ⊎ Rose stuck stuck'
 
 -- the same of a name that there may be
-abbrev pub AllGone : Option (List Step) → Option (List ℕ) → Type 0
-AllGone steps None = Unit {0}
-AllGone steps (Some name) = Gone steps name
+abbrev pub AllGone : Option (List Step) → ℕ → ℕ → Option (List ℕ) → Type 0
+AllGone steps stuck stuck' None = Unit {0}
+AllGone steps stuck stuck' (Some name) = Gone steps stuck stuck' name
 
 -- The file of a temporary name stands under a name, and all its bytes were synced first.
 abbrev pub AllPublished : Option (List Step) → Option (List Step) → Option (List ℕ) → Option (List ℕ) → Type 0

@@ -199,7 +199,8 @@ fn append<D: Disk>(
 
 // Gives a file the permissions of the one whose place it is to take, where there is one.
 fn keep_mode<D: Disk>(disk: &mut D, file: &mut D::Written, name: &str) -> io::Result<()>
-    ensures { D.history disk.new ≡ D.history disk.old }
+    ensures same { D.history disk.new ≡ D.history disk.old }
+    ensures stuck { D.stuck disk.new ≡ D.stuck disk.old }
 {
     match disk.mode(name) {
         Ok(mode) => disk.set_mode(file, mode),
@@ -215,6 +216,7 @@ fn publish<D: Disk>(
     name: &str,
 ) -> io::Result<()>
     ensures name { temporary.new.name ≡ temporary.old.name }
+    ensures stuck { D.stuck disk.new ≡ D.stuck disk.old }
     ensures publishes { Publishes (D.history disk.old) (D.history disk.new) (string_bytes temporary.old.name) name.now result }
 {
     keep_mode(disk, &mut temporary.file, name)?;
@@ -226,7 +228,7 @@ fn publish<D: Disk>(
 fn remove<D: Disk>(disk: &mut D, name: &str)
     requires { is_own name.now ≡ true }
     ensures told { told (D.history disk.new) ≡ told (D.history disk.old) }
-    ensures gone { Gone (D.history disk.new) name.now }
+    ensures gone { Gone (D.history disk.new) (D.stuck disk.old) (D.stuck disk.new) name.now }
 {
     let _ = disk.remove(name);
 }
@@ -250,7 +252,7 @@ impl<D: Disk> DiskStore<D> {
     pub fn drop_pending(&mut self)
         ensures pending { self.new.pending ≡ None }
         ensures told { told (D.history self.new.disk) ≡ told (D.history self.old.disk) }
-        ensures gone { AllGone (D.history self.new.disk) (temporary_of self.old.pending) }
+        ensures gone { AllGone (D.history self.new.disk) (D.stuck self.old.disk) (D.stuck self.new.disk) (temporary_of self.old.pending) }
         ensures faults { self.new.faults ≡ self.old.faults }
         ensures read_faults { self.new.read_faults ≡ self.old.read_faults }
     {
@@ -350,7 +352,7 @@ impl<D: Disk> Store for DiskStore<D> {
         ensures read_faults { self.new.read_faults ≡ self.old.read_faults }
         ensures cause { HasCause true true self.old.faults self.new.faults result }
         ensures published { OnOk result (AllPublished (D.history self.old.disk) (D.history self.new.disk) (temporary_of self.old.pending) (name_of self.old.pending)) }
-        ensures gone { OnErr result (AllGone (D.history self.new.disk) (temporary_of self.old.pending)) }
+        ensures gone { OnErr result (AllGone (D.history self.new.disk) (D.stuck self.old.disk) (D.stuck self.new.disk) (temporary_of self.old.pending)) }
     {
         let Some(pending) = self.pending.take() else {
             unreachable!()

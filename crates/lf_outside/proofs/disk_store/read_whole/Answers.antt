@@ -1,4 +1,4 @@
-use Rattle.std.proofs.Common.{sym, ap, ◌∙◌, ◌+◌, arith}
+use Rattle.std.proofs.Common.{ap, arith}
 use Rattle.lf_outside.proofs.Disks.{read_to_end}
 use Rattle.lf_outside.proofs.disk_store.read_whole.Goals as goal
 

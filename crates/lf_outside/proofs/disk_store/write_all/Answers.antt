@@ -1,4 +1,4 @@
-use Rattle.std.proofs.Common.{◌∙◌, drop, take, subst, arith, length-drop}
+use Rattle.std.proofs.Common.{◌∙◌, take, subst, arith, length-drop}
 use Rattle.std.proofs.lemmas.List.{take_rest}
 use Rattle.lf_base.specs.Contents.{Appends}
 use Rattle.lf_outside.specs.Disk.{held}

@@ -3,7 +3,9 @@
 #![tactic(auto)]
 
 use lf_driver::lf_main;
-use lf_outside::{DiskStore, Lines, Reader, SystemDisk, Writer, all_words, behind_name, open_streams};
+use lf_outside::{
+    DiskStore, Lines, Reader, SystemDisk, Writer, all_words, behind_name, open_streams,
+};
 use std::process::ExitCode;
 
 /// The status where memory runs out before the words are there.

@@ -74,6 +74,7 @@ fn write_long<W: Write>(stream: &mut W, held: &mut Held, piece: &[u8]) -> Result
     }
 }
 
+// Takes a piece: keeps it back where there is room for it.
 #[tactic(auto, using(crate::proofs::KeptBack::lines))]
 fn add<W: Write>(stream: &mut W, held: &mut Held, piece: &[u8]) -> Result<(), Failed>
     ensures ok { OnOk result (Appends (append_known (W.contents stream.old) held.old.items) (append_known (W.contents stream.new) held.new.items) piece.now) }

@@ -44,6 +44,7 @@ pub struct MemDisk {
     stuck: u64,
 }
 
+// Whether two names are one.
 fn same(a: &[u8], b: &[u8]) -> bool
     ensures { IsTrue result ↔ (a.now ≡ b.now) }
 {
@@ -96,6 +97,7 @@ fn file_in<'a>(steps: &'a VecDeque<MemStep>, name: &[u8]) -> Option<&'a [u8]>
     None
 }
 
+// The error of a call that is to fail.
 fn other() -> io::Error {
     io::Error::from(ErrorKind::Other)
 }
@@ -143,6 +145,7 @@ impl MemDisk {
         Ok(Vec::from_slice(self.alloc, name.as_bytes())?)
     }
 
+    // Notes a call that changed the disk.
     fn add(&mut self, step: MemStep) -> io::Result<()>
         ensures ok { OnOk result (history_of self.new ≡ step_of step ∷ history_of self.old) }
         ensures err { OnErr result (history_of self.new ≡ history_of self.old) }

@@ -1,9 +1,9 @@
-ghost use Rattle.std.specs.Prelude.{◌≡◌, IfOk, OnErr, IsSome};
+ghost use Rattle.std.specs.Prelude.{◌≡◌, IfOk, OnErr, IsSome, refl};
 ghost use Rattle.lf_base.specs.Contents.{HandsOver};
 ghost use Rattle.lf_outside.specs.Streams.{Stays};
 
 use lf_base::{Failed, Source};
-use std::io::{ErrorKind, Read, Stdin};
+use std::io::{Cursor, ErrorKind, Read, Stdin};
 
 /// A stream that either tells what is left all the time, or never.
 pub trait Steady: Read + Drop {
@@ -12,6 +12,10 @@ pub trait Steady: Read + Drop {
 
 impl Steady for Stdin {
     ghost steady = { λ a b told. told };
+}
+
+impl Steady for Cursor<Vec<u8>> {
+    ghost steady = { λ a b told. refl };
 }
 
 /// A stream as a source. It tells the bytes that the stream tells to be left.

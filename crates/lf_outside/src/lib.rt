@@ -20,6 +20,6 @@ pub use lines::Lines;
 pub use mem_disk::{MemDisk, MemFile, MemStep};
 pub use names::{is_own, parts, temporary_name};
 pub use reader::Reader;
-pub use system::{SystemDisk, open_streams};
+pub use system::{SystemDisk, open_streams, size_limit};
 pub use words::{all_words, behind_name};
 pub use writer::Writer;

@@ -1,20 +1,43 @@
 ghost use Rattle.std.specs.Prelude.{None};
 
 use crate::disk::Disk;
-use libc::types::rlimit;
 use std::fs::{self, File, OpenOptions, Permissions};
 use std::io::{Result, Write};
 use std::os::fd::{AsRawFd, IntoRawFd};
 use std::os::unix::fs::PermissionsExt;
 
-/// The number of the limit on the length of files, as Linux has it.
-const RLIMIT_FSIZE: i32 = 1;
+/// Where Linux shows the limits of a process, one a line.
+const LIMITS: &str = "/proc/self/limits";
+
+/// How the line of the limit on the length of files begins. Two limits follow, of which the first holds.
+const SIZE_LIMIT: &str = "Max file size";
 
 /// The device that takes all and gives nothing.
 const NULL_DEVICE: &str = "/dev/null";
 
 /// The greatest number of a standard stream: 0 to 2 are the input, the output and the error output.
 const LAST_STREAM: i32 = 2;
+
+// The number that a text begins with, or none at all.
+fn first_number(text: &str) -> u64 {
+    match text.split_whitespace().next() {
+        Some(word) => match word.parse::<u64>() {
+            Ok(number) => number,
+            Err(_) => u64::MAX,
+        },
+        None => u64::MAX,
+    }
+}
+
+/// The limit on the length of files that the lines of limits tell: the greatest number, where they tell none.
+pub fn size_limit(limits: &str) -> u64 {
+    for line in limits.lines() {
+        if let Some(rest) = line.strip_prefix(SIZE_LIMIT) {
+            return first_number(rest);
+        }
+    }
+    u64::MAX
+}
 
 /// The files of the system. It tells nothing. Each call hands its arguments to one call of the library.
 #[derive(Drop)]
@@ -47,12 +70,10 @@ impl Disk for SystemDisk {
     }
 
     fn limit(&self) -> u64 {
-        let mut limit = rlimit {
-            rlim_cur: u64::MAX,
-            rlim_max: u64::MAX,
-        };
-        libc::getrlimit(RLIMIT_FSIZE, &mut limit);
-        limit.rlim_cur
+        match fs::read_to_string(&self.rt, LIMITS) {
+            Ok(limits) => size_limit(limits.as_str()),
+            Err(_) => u64::MAX,
+        }
     }
 
     fn create(&mut self, name: &str) -> Result<File> {

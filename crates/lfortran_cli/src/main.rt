@@ -2,34 +2,28 @@
 //! streams are handed to the top call, and its answer is the status.
 #![tactic(auto)]
 
-mod errors;
-mod file_store;
-mod input;
-mod output;
-mod words;
-
-use errors::Errors;
-use file_store::FileStore;
-use input::Input;
 use lf_driver::lf_main;
-use output::Output;
+use lf_outside::{
+    DiskStore, Lines, Reader, SystemDisk, Writer, all_words, behind_name, open_streams,
+};
 use std::process::ExitCode;
-use words::words;
 
 /// The status where memory runs out before the words are there.
 const OUT_OF_MEMORY: u8 = 5;
 
 fn main(rt: HostRuntime) -> ExitCode {
-    let Ok(words) = words(&rt) else {
+    open_streams(&rt);
+    let Ok(words) = all_words(&rt) else {
         return ExitCode::from(OUT_OF_MEMORY);
     };
-    let mut store = FileStore::new(rt);
-    let mut input = Input::new(rt.stdin());
-    let mut out = Output::new(rt.stdout());
-    let mut err = Errors::new(rt.stderr());
+    let alloc = rt.alloc();
+    let mut input = Reader::new(rt.stdin());
+    let mut out = Writer::new(rt.stdout());
+    let mut err = Lines::new(rt.stderr());
+    let mut store = DiskStore::new(SystemDisk::new(rt), alloc);
     let status = lf_main(
-        rt.alloc(),
-        words.as_slice(),
+        alloc,
+        behind_name(words.as_slice()),
         &mut store,
         &mut input,
         &mut out,

@@ -198,7 +198,7 @@ module _ (a b : Nodes) (h : Sound a) (k : Sound b) (at : Key) (old x : Node at) 
             let r = places_are a h at key z.0 z.1 in
             let w = ap one_where t in
             let s = total_moved (places_at b j) (places_at a j) (places_at a at) (places_at a j at) (places_at b j at) (parts key z.0)
-                (all_each (ends parts (λ _. true) (node_at a) n) (λ i. places_at b j i + places_at a at i * places_at a j at ≡ places_at a j i + places_at a at i * places_at b j at) (moved_one j n) (parts key z.0) z.2) in
+            (all_each (ends parts (λ _. true) (node_at a) n) (λ i. places_at b j i + places_at a at i * places_at a j at ≡ places_at a j i + places_at a at i * places_at b j at) (moved_one j n) (parts key z.0) z.2) in
             let same : places_at a at key ≡ places a at (parts key z.0) = omega (arith, r, w) in
             let c = ap (λ i. i * places_at a j at) same in
             let d = ap (λ i. i * places_at b j at) same in
@@ -414,8 +414,8 @@ module _ (a : Nodes) (h : Sound a) where
             let q = places_are a h at key z.0 z.1 in
             let w = ap one_where t in
             let r = total_inside (places_at a at) (places_at a j) (places_at a j at) (parts key z.0)
-                (all_each (ends parts (λ _. true) (node_at a) n) (λ i. 0 < places_at a at i → places_at a j at ≤ places_at a j i) (inside_one j at n) (parts key z.0) z.2)
-                (omega (arith, q, w, l)) in
+            (all_each (ends parts (λ _. true) (node_at a) n) (λ i. 0 < places_at a at i → places_at a j at ≤ places_at a j i) (inside_one j at n) (parts key z.0) z.2)
+            (omega (arith, q, w, l)) in
             omega (arith, p, r)
       ]
 

@@ -198,7 +198,7 @@ module _ (entities : Entities) (n n' : ℕ) (le : n ≤ n') (inner inner' : Call
   step_longer here b step None = next_step _ _ (stepped_longer here b step)
   step_longer here b step (Some signal) = give_longer (Option Signal) (Some signal)
 
-  turns_longer : (here : Location) (id : ℕ) (body body' : Doing) → Longer (Option Signal) body body' → (b : Binding) (first step : ℤ) (count : ℕ) → Longer (Option Signal) (do_turns entities n inner here id body b first step count) (do_turns entities n' inner' here id body' b first step count)
+  turns_longer : (here : Location) (id : ℕ) (body body' : Doing) → Longer (Option Signal) body body' → (b : Binding) (first step : ℤ) (count : ℕ) → Longer (Option Signal) (do_turns n here id body b first step count) (do_turns n' here id body' b first step count)
   turns_longer here id body body' k b first step count =
       bind_longer (Unit {0}) (Option Signal) (assign b _) (assign b _) _ _ (assign_longer b _)
       (λ u. bind_longer (Option Signal) (Option Signal) _ _ _ _

@@ -169,6 +169,16 @@ abbrev pub then_step : Location → Binding → ℤ → Option Signal → Doing
 then_step here variable step None = then_next (stepped here variable step)
 then_step here variable step (Some signal) = give (Some signal)
 
+-- the turns of a `do` with its count, of which at most n are made
+abbrev pub do_turns : ℕ → Location → ℕ → Doing → Binding → ℤ → ℤ → ℕ → Doing
+do_turns n here id body variable first step count =
+    bind (assign variable (Single (Integer 4 first))) (λ u.
+    bind (counted count n (bind (turn_of id body) (then_step here variable step))) (landing (exits id)))
+
+-- the turns of a loop that tests before each, of which at most n are made
+abbrev pub while_turns : ℕ → ℕ → M Bool → Doing → Doing
+while_turns n id test body = bind (iterate n test (turn_of id body)) (landing (exits id))
+
 -- the items of a record, each written when it has been evaluated
 abbrev pub put_each : Location → Last → List PrintItem → M (Unit {0})
 put_each here last [] = give tt
@@ -252,18 +262,13 @@ module _ (entities : Entities) (n : ℕ) (inner : Calls) where
   expr_layer (ExprTree-F.SecLen lower upper step low high) = no_rule
   expr_layer (ExprTree-F.Arr number element extents) = no_rule
 
-  abbrev pub do_turns : Location → ℕ → Doing → Binding → ℤ → ℤ → ℕ → Doing
-  do_turns here id body variable first step count =
-      bind (assign variable (Single (Integer 4 first))) (λ u.
-      bind (counted count n (bind (turn_of id body) (then_step here variable step))) (landing (exits id)))
-
   abbrev pub do_loop : Location → ℕ → Meant → Meant → Meant → Meant → Doing → Doing
   do_loop here id variable lower upper step body =
       bind (integer4 lower.value here) (λ first. bind (integer4 upper.value here) (λ last. bind (integer4 step.value here) (λ by.
-      bind (result here (turns first last by)) (λ count. bind (variable.place here) (λ b. do_turns here id body b first by count)))))
+      bind (result here (turns first last by)) (λ count. bind (variable.place here) (λ b. do_turns n here id body b first by count)))))
 
   abbrev pub while_loop : Location → ℕ → Meant → Doing → Doing
-  while_loop here id condition body = bind (iterate n (tested condition.value here) (turn_of id body)) (landing (exits id))
+  while_loop here id condition body = while_turns n id (tested condition.value here) body
 
   abbrev pub stmt_layer : StmtTree-F (Unit {0}) Meant PrintItem (Unit {0}) (List ℕ → Doing) (Unit {0}) → List ℕ → Doing
   stmt_layer (StmtTree-F.Assign line target value) source = then_next (assigns (at source line) target value)

@@ -14,7 +14,7 @@ use Rattle.ast_nodes.proofs.StmtFolds as stmts
 use Rattle.asr_semantics.specs.Machine.{State}
 use Rattle.fortran_semantics.specs.Constants.{Part as NamePart, Named, Grouped, Constant, constant_meaning, constant_layer, part_layer as constant_part, designator_layer as constant_designator, parts_constant}
 use Rattle.fortran_semantics.specs.Declared.{Declared}
-use Rattle.fortran_semantics.specs.Meaning.{Meant, Known, Branch, Doing, expr_layer, part_layer, designator_layer, stmt_layer, arm_layer, case_layer, expression, designated, statement, parts_meant}
+use Rattle.fortran_semantics.specs.Meaning.{Meant, Known, Branch, Deed, Loops, expr_layer, part_layer, designator_layer, stmt_layer, arm_layer, case_layer, expression, designated, statement, parts_meant}
 
 -- constants
 module _ (known : List ℕ → Option Constant) where
@@ -142,36 +142,63 @@ module _ (unit_name : List ℕ) (declared : List Declared) (known : Known) where
 
 module _ (unit_name : List ℕ) (declared : List Declared) (known : Known) (n : ℕ) where
   abbrev pub arm_of : Arm → Branch
-  arm_of = fold-Arm (List ℕ → Doing) Branch (Unit {0}) (stmt_layer unit_name declared known n) (arm_layer unit_name declared known n) (case_layer unit_name declared known n)
+  arm_of = fold-Arm Deed Branch (Unit {0}) (stmt_layer unit_name declared known n) (arm_layer unit_name declared known n) (case_layer unit_name declared known n)
 
-  pub runs-Assign : (line : ℕ) (target : Designator) (value : Expr) (source : List ℕ) (s : State) (w : Written) → statement unit_name declared known n (Assign line target value) source s w ≡ stmt_layer unit_name declared known n (Statement-F.Assign line target value) source s w
-  runs-Assign line target value source s w = ap (λ f. f source s w) (stmts.fold-Assign (List ℕ → Doing) Branch (Unit {0}) (stmt_layer unit_name declared known n) (arm_layer unit_name declared known n) (case_layer unit_name declared known n) line target value)
+  pub runs-Assign : (line : ℕ) (target : Designator) (value : Expr) (loops : Loops) (first : ℕ) (source : List ℕ) (s : State) (w : Written) → (statement unit_name declared known n (Assign line target value)).does loops first source s w ≡ (stmt_layer unit_name declared known n (Statement-F.Assign line target value)).does loops first source s w
+  runs-Assign line target value loops first source s w = ap (λ d. d.does loops first source s w) (stmts.fold-Assign Deed Branch (Unit {0}) (stmt_layer unit_name declared known n) (arm_layer unit_name declared known n) (case_layer unit_name declared known n) line target value)
 
-  pub runs-If : (line : ℕ) (construct : Option Name) (arms : List Arm) (source : List ℕ) (s : State) (w : Written) → statement unit_name declared known n (If line construct arms) source s w ≡ stmt_layer unit_name declared known n (Statement-F.If line construct (map arm_of arms)) source s w
-  runs-If line construct arms source s w = ap (λ f. f source s w) (stmts.fold-If (List ℕ → Doing) Branch (Unit {0}) (stmt_layer unit_name declared known n) (arm_layer unit_name declared known n) (case_layer unit_name declared known n) line construct arms)
+  pub count-Assign : (line : ℕ) (target : Designator) (value : Expr) → (statement unit_name declared known n (Assign line target value)).count ≡ (stmt_layer unit_name declared known n (Statement-F.Assign line target value)).count
+  count-Assign line target value = ap (λ d. d.count) (stmts.fold-Assign Deed Branch (Unit {0}) (stmt_layer unit_name declared known n) (arm_layer unit_name declared known n) (case_layer unit_name declared known n) line target value)
 
-  pub runs-Do : (line : ℕ) (construct : Option Name) (variable : Name) (lower : Expr) (upper : Expr) (step : Option Expr) (body : List Statement) (source : List ℕ) (s : State) (w : Written) → statement unit_name declared known n (Do line construct variable lower upper step body) source s w ≡ stmt_layer unit_name declared known n (Statement-F.Do line construct variable lower upper step (map (statement unit_name declared known n) body)) source s w
-  runs-Do line construct variable lower upper step body source s w = ap (λ f. f source s w) (stmts.fold-Do (List ℕ → Doing) Branch (Unit {0}) (stmt_layer unit_name declared known n) (arm_layer unit_name declared known n) (case_layer unit_name declared known n) line construct variable lower upper step body)
+  pub runs-If : (line : ℕ) (construct : Option Name) (arms : List Arm) (loops : Loops) (first : ℕ) (source : List ℕ) (s : State) (w : Written) → (statement unit_name declared known n (If line construct arms)).does loops first source s w ≡ (stmt_layer unit_name declared known n (Statement-F.If line construct (map arm_of arms))).does loops first source s w
+  runs-If line construct arms loops first source s w = ap (λ d. d.does loops first source s w) (stmts.fold-If Deed Branch (Unit {0}) (stmt_layer unit_name declared known n) (arm_layer unit_name declared known n) (case_layer unit_name declared known n) line construct arms)
 
-  pub runs-While : (line : ℕ) (construct : Option Name) (condition : Option Expr) (body : List Statement) (source : List ℕ) (s : State) (w : Written) → statement unit_name declared known n (While line construct condition body) source s w ≡ stmt_layer unit_name declared known n (Statement-F.While line construct condition (map (statement unit_name declared known n) body)) source s w
-  runs-While line construct condition body source s w = ap (λ f. f source s w) (stmts.fold-While (List ℕ → Doing) Branch (Unit {0}) (stmt_layer unit_name declared known n) (arm_layer unit_name declared known n) (case_layer unit_name declared known n) line construct condition body)
+  pub count-If : (line : ℕ) (construct : Option Name) (arms : List Arm) → (statement unit_name declared known n (If line construct arms)).count ≡ (stmt_layer unit_name declared known n (Statement-F.If line construct (map arm_of arms))).count
+  count-If line construct arms = ap (λ d. d.count) (stmts.fold-If Deed Branch (Unit {0}) (stmt_layer unit_name declared known n) (arm_layer unit_name declared known n) (case_layer unit_name declared known n) line construct arms)
 
-  pub runs-Print : (line : ℕ) (form : ℕ) (advance : ℕ) (items : List Expr) (source : List ℕ) (s : State) (w : Written) → statement unit_name declared known n (Print line form advance items) source s w ≡ stmt_layer unit_name declared known n (Statement-F.Print line form advance items) source s w
-  runs-Print line form advance items source s w = ap (λ f. f source s w) (stmts.fold-Print (List ℕ → Doing) Branch (Unit {0}) (stmt_layer unit_name declared known n) (arm_layer unit_name declared known n) (case_layer unit_name declared known n) line form advance items)
+  pub runs-Do : (line : ℕ) (construct : Option Name) (variable : Name) (lower : Expr) (upper : Expr) (step : Option Expr) (body : List Statement) (loops : Loops) (first : ℕ) (source : List ℕ) (s : State) (w : Written) → (statement unit_name declared known n (Do line construct variable lower upper step body)).does loops first source s w ≡ (stmt_layer unit_name declared known n (Statement-F.Do line construct variable lower upper step (map (statement unit_name declared known n) body))).does loops first source s w
+  runs-Do line construct variable lower upper step body loops first source s w = ap (λ d. d.does loops first source s w) (stmts.fold-Do Deed Branch (Unit {0}) (stmt_layer unit_name declared known n) (arm_layer unit_name declared known n) (case_layer unit_name declared known n) line construct variable lower upper step body)
 
-  pub runs-Stop : (line : ℕ) (is_error : ℕ) (code : Option Expr) (source : List ℕ) (s : State) (w : Written) → statement unit_name declared known n (Stop line is_error code) source s w ≡ stmt_layer unit_name declared known n (Statement-F.Stop line is_error code) source s w
-  runs-Stop line is_error code source s w = ap (λ f. f source s w) (stmts.fold-Stop (List ℕ → Doing) Branch (Unit {0}) (stmt_layer unit_name declared known n) (arm_layer unit_name declared known n) (case_layer unit_name declared known n) line is_error code)
+  pub count-Do : (line : ℕ) (construct : Option Name) (variable : Name) (lower : Expr) (upper : Expr) (step : Option Expr) (body : List Statement) → (statement unit_name declared known n (Do line construct variable lower upper step body)).count ≡ (stmt_layer unit_name declared known n (Statement-F.Do line construct variable lower upper step (map (statement unit_name declared known n) body))).count
+  count-Do line construct variable lower upper step body = ap (λ d. d.count) (stmts.fold-Do Deed Branch (Unit {0}) (stmt_layer unit_name declared known n) (arm_layer unit_name declared known n) (case_layer unit_name declared known n) line construct variable lower upper step body)
 
-  pub runs-Exit : (line : ℕ) (construct : Option Name) (source : List ℕ) (s : State) (w : Written) → statement unit_name declared known n (Exit line construct) source s w ≡ stmt_layer unit_name declared known n (Statement-F.Exit line construct) source s w
-  runs-Exit line construct source s w = ap (λ f. f source s w) (stmts.fold-Exit (List ℕ → Doing) Branch (Unit {0}) (stmt_layer unit_name declared known n) (arm_layer unit_name declared known n) (case_layer unit_name declared known n) line construct)
+  pub runs-While : (line : ℕ) (construct : Option Name) (condition : Option Expr) (body : List Statement) (loops : Loops) (first : ℕ) (source : List ℕ) (s : State) (w : Written) → (statement unit_name declared known n (While line construct condition body)).does loops first source s w ≡ (stmt_layer unit_name declared known n (Statement-F.While line construct condition (map (statement unit_name declared known n) body))).does loops first source s w
+  runs-While line construct condition body loops first source s w = ap (λ d. d.does loops first source s w) (stmts.fold-While Deed Branch (Unit {0}) (stmt_layer unit_name declared known n) (arm_layer unit_name declared known n) (case_layer unit_name declared known n) line construct condition body)
 
-  pub runs-Cycle : (line : ℕ) (construct : Option Name) (source : List ℕ) (s : State) (w : Written) → statement unit_name declared known n (Cycle line construct) source s w ≡ stmt_layer unit_name declared known n (Statement-F.Cycle line construct) source s w
-  runs-Cycle line construct source s w = ap (λ f. f source s w) (stmts.fold-Cycle (List ℕ → Doing) Branch (Unit {0}) (stmt_layer unit_name declared known n) (arm_layer unit_name declared known n) (case_layer unit_name declared known n) line construct)
+  pub count-While : (line : ℕ) (construct : Option Name) (condition : Option Expr) (body : List Statement) → (statement unit_name declared known n (While line construct condition body)).count ≡ (stmt_layer unit_name declared known n (Statement-F.While line construct condition (map (statement unit_name declared known n) body))).count
+  count-While line construct condition body = ap (λ d. d.count) (stmts.fold-While Deed Branch (Unit {0}) (stmt_layer unit_name declared known n) (arm_layer unit_name declared known n) (case_layer unit_name declared known n) line construct condition body)
 
-  pub runs-Continue : (line : ℕ) (source : List ℕ) (s : State) (w : Written) → statement unit_name declared known n (Continue line) source s w ≡ stmt_layer unit_name declared known n (Statement-F.Continue line) source s w
-  runs-Continue line source s w = ap (λ f. f source s w) (stmts.fold-Continue (List ℕ → Doing) Branch (Unit {0}) (stmt_layer unit_name declared known n) (arm_layer unit_name declared known n) (case_layer unit_name declared known n) line)
+  pub runs-Print : (line : ℕ) (form : ℕ) (advance : ℕ) (items : List Expr) (loops : Loops) (first : ℕ) (source : List ℕ) (s : State) (w : Written) → (statement unit_name declared known n (Print line form advance items)).does loops first source s w ≡ (stmt_layer unit_name declared known n (Statement-F.Print line form advance items)).does loops first source s w
+  runs-Print line form advance items loops first source s w = ap (λ d. d.does loops first source s w) (stmts.fold-Print Deed Branch (Unit {0}) (stmt_layer unit_name declared known n) (arm_layer unit_name declared known n) (case_layer unit_name declared known n) line form advance items)
+
+  pub count-Print : (line : ℕ) (form : ℕ) (advance : ℕ) (items : List Expr) → (statement unit_name declared known n (Print line form advance items)).count ≡ (stmt_layer unit_name declared known n (Statement-F.Print line form advance items)).count
+  count-Print line form advance items = ap (λ d. d.count) (stmts.fold-Print Deed Branch (Unit {0}) (stmt_layer unit_name declared known n) (arm_layer unit_name declared known n) (case_layer unit_name declared known n) line form advance items)
+
+  pub runs-Stop : (line : ℕ) (is_error : ℕ) (code : Option Expr) (loops : Loops) (first : ℕ) (source : List ℕ) (s : State) (w : Written) → (statement unit_name declared known n (Stop line is_error code)).does loops first source s w ≡ (stmt_layer unit_name declared known n (Statement-F.Stop line is_error code)).does loops first source s w
+  runs-Stop line is_error code loops first source s w = ap (λ d. d.does loops first source s w) (stmts.fold-Stop Deed Branch (Unit {0}) (stmt_layer unit_name declared known n) (arm_layer unit_name declared known n) (case_layer unit_name declared known n) line is_error code)
+
+  pub count-Stop : (line : ℕ) (is_error : ℕ) (code : Option Expr) → (statement unit_name declared known n (Stop line is_error code)).count ≡ (stmt_layer unit_name declared known n (Statement-F.Stop line is_error code)).count
+  count-Stop line is_error code = ap (λ d. d.count) (stmts.fold-Stop Deed Branch (Unit {0}) (stmt_layer unit_name declared known n) (arm_layer unit_name declared known n) (case_layer unit_name declared known n) line is_error code)
+
+  pub runs-Exit : (line : ℕ) (construct : Option Name) (loops : Loops) (first : ℕ) (source : List ℕ) (s : State) (w : Written) → (statement unit_name declared known n (Exit line construct)).does loops first source s w ≡ (stmt_layer unit_name declared known n (Statement-F.Exit line construct)).does loops first source s w
+  runs-Exit line construct loops first source s w = ap (λ d. d.does loops first source s w) (stmts.fold-Exit Deed Branch (Unit {0}) (stmt_layer unit_name declared known n) (arm_layer unit_name declared known n) (case_layer unit_name declared known n) line construct)
+
+  pub count-Exit : (line : ℕ) (construct : Option Name) → (statement unit_name declared known n (Exit line construct)).count ≡ (stmt_layer unit_name declared known n (Statement-F.Exit line construct)).count
+  count-Exit line construct = ap (λ d. d.count) (stmts.fold-Exit Deed Branch (Unit {0}) (stmt_layer unit_name declared known n) (arm_layer unit_name declared known n) (case_layer unit_name declared known n) line construct)
+
+  pub runs-Cycle : (line : ℕ) (construct : Option Name) (loops : Loops) (first : ℕ) (source : List ℕ) (s : State) (w : Written) → (statement unit_name declared known n (Cycle line construct)).does loops first source s w ≡ (stmt_layer unit_name declared known n (Statement-F.Cycle line construct)).does loops first source s w
+  runs-Cycle line construct loops first source s w = ap (λ d. d.does loops first source s w) (stmts.fold-Cycle Deed Branch (Unit {0}) (stmt_layer unit_name declared known n) (arm_layer unit_name declared known n) (case_layer unit_name declared known n) line construct)
+
+  pub count-Cycle : (line : ℕ) (construct : Option Name) → (statement unit_name declared known n (Cycle line construct)).count ≡ (stmt_layer unit_name declared known n (Statement-F.Cycle line construct)).count
+  count-Cycle line construct = ap (λ d. d.count) (stmts.fold-Cycle Deed Branch (Unit {0}) (stmt_layer unit_name declared known n) (arm_layer unit_name declared known n) (case_layer unit_name declared known n) line construct)
+
+  pub runs-Continue : (line : ℕ) (loops : Loops) (first : ℕ) (source : List ℕ) (s : State) (w : Written) → (statement unit_name declared known n (Continue line)).does loops first source s w ≡ (stmt_layer unit_name declared known n (Statement-F.Continue line)).does loops first source s w
+  runs-Continue line loops first source s w = ap (λ d. d.does loops first source s w) (stmts.fold-Continue Deed Branch (Unit {0}) (stmt_layer unit_name declared known n) (arm_layer unit_name declared known n) (case_layer unit_name declared known n) line)
+
+  pub count-Continue : (line : ℕ) → (statement unit_name declared known n (Continue line)).count ≡ (stmt_layer unit_name declared known n (Statement-F.Continue line)).count
+  count-Continue line = ap (λ d. d.count) (stmts.fold-Continue Deed Branch (Unit {0}) (stmt_layer unit_name declared known n) (arm_layer unit_name declared known n) (case_layer unit_name declared known n) line)
 
   pub arm-is : (it : Arm) → arm_of it ≡ arm_layer unit_name declared known n (record { line = it.line; condition = it.condition; body = map (statement unit_name declared known n) it.body })
-  arm-is it = stmts.fold-arm (List ℕ → Doing) Branch (Unit {0}) (stmt_layer unit_name declared known n) (arm_layer unit_name declared known n) (case_layer unit_name declared known n) it
+  arm-is it = stmts.fold-arm Deed Branch (Unit {0}) (stmt_layer unit_name declared known n) (arm_layer unit_name declared known n) (case_layer unit_name declared known n) it
 
-  pub ruleset statements_run = (arm-is, runs-Assign, runs-If, runs-Do, runs-While, runs-Print, runs-Stop, runs-Exit, runs-Cycle, runs-Continue)
+  pub ruleset statements_run = (arm-is, runs-Assign, count-Assign, runs-If, count-If, runs-Do, count-Do, runs-While, count-While, runs-Print, count-Print, runs-Stop, count-Stop, runs-Exit, count-Exit, runs-Cycle, count-Cycle, runs-Continue, count-Continue)

@@ -1,11 +1,10 @@
 -- What a main program does (ISO/IEC 1539-1:2018, clauses 10 and 11), by the tree of its source: scalars and control.
 -- Names are looked up as they are met, and types are those of the values at hand. `n` bounds the turns of one execution
 -- of a loop. Forms that have no rule yet are stuck.
-use Rattle.std.specs.Prelude.{ℕ, ◌==◌, ℤ, pos, Bool, true, false, if◌then◌else◌, List, [], ◌∷◌, map, Option, Some, None}
+use Rattle.std.specs.Prelude.{ℕ, suc, ◌+◌, ◌==◌, ℤ, pos, Bool, true, false, if◌then◌else◌, List, [], ◌∷◌, map, Option, Some, None}
 use Rattle.std.specs.Str.{bytes_eq}
 use Rattle.lf_base.specs.Outcome.{Location, Stuck, Meaning, written}
-use Rattle.lf_base.specs.Acts.{bind, give, look, change, stop, wrong, in_order, iterate, outcome_of}
-use Rattle.lf_base.specs.Loops.{counted, landing}
+use Rattle.lf_base.specs.Acts.{bind, give, look, change, stop, wrong, next_or, outcome_of}
 use Rattle.lf_base.specs.Operators.{operator_of}
 use Rattle.ast_nodes.specs.declared.expression.Designator.{Designator}
 use Rattle.ast_nodes.specs.declared.expression.Expr.{Expr}
@@ -26,19 +25,32 @@ use Rattle.type_rules.specs.declared.constant.Op.TheVariants.{Unary, Binary, Int
 use Rattle.asr_nodes.specs.Reading.{Path}
 use Rattle.asr_nodes.specs.declared.code.TheConstants.{TRUE}
 use Rattle.asr_semantics.specs.Machine.{State, M, result, stuck, variable, fetch, assign, create, declare_static, whole}
-use Rattle.asr_semantics.specs.Meaning.{operate, integer4_of, integer_of, decides, needed, tested, stepped, status_of, at, print_items}
+use Rattle.asr_semantics.specs.Meaning.{Signal, Exits, Cycles, Doing, operate, integer4_of, integer_of, decides, needed, tested, choose, then_next, do_turns, while_turns, status_of, at, print_items}
 use Rattle.asr_semantics.specs.Records.{digits}
 use Rattle.fortran_semantics.specs.Constants.{Part, Named, Grouped, Constant, literal_kind, literal_value, kind_written, intrinsic_named, is_int, is_huge, huge_of, joined_kind, kind_of, of_type, constant_of, constant_meaning}
 use Rattle.fortran_semantics.specs.Declared.{ScalarType, IntegerType, LogicalType, Declared, Declaration, Variable, Parameter, Other, all_declared, declared_as}
 
--- How a statement is left, if not for the next one: by `exit` or `cycle` of the innermost loop or of the one with this
--- name (11.1.12, 11.1.7.4.4).
-pub data Signal : Type 0 where
-  Exits : (construct : Option (List ℕ)) → Signal
-  Cycles : (construct : Option (List ℕ)) → Signal
+-- A statement is left, if not for the next one, by `exit` or `cycle` of a loop (11.1.12, 11.1.7.4.4), which is told by its
+-- number: the loops of a program are numbered from 1 in the order of the source.
+abbrev pub Loops : Type 0
+Loops = List (ℕ × Option (List ℕ))
 
-abbrev pub Doing : Type 0
-Doing = M (Option Signal)
+-- the loops that a statement stands in, the innermost first: the innermost one, or the one of this construct name
+abbrev pub has_name : Option (List ℕ) → List ℕ → Bool
+has_name None name = false
+has_name (Some own) name = bytes_eq own name
+
+abbrev pub loop_of_name : Loops → List ℕ → Option ℕ
+loop_of_name [] name = None
+loop_of_name (loop ∷ loops) name = if has_name loop.1 name then Some loop.0 else loop_of_name loops name
+
+abbrev pub innermost : Loops → Option ℕ
+innermost [] = None
+innermost (loop ∷ loops) = Some loop.0
+
+abbrev pub loop_of : Loops → Option (List ℕ) → Option ℕ
+loop_of loops None = innermost loops
+loop_of loops (Some name) = loop_of_name loops name
 
 -- An expression: its value, the variable that it designates, what a value becomes that is assigned to it, its kind where it
 -- is an integer, which needs no value, and the kind that it writes as a literal.
@@ -122,33 +134,6 @@ abbrev pub known_behind : List Declared → Known → Known
 known_behind [] known = known
 known_behind (d ∷ ds) known = known_behind ds ((d.name, entry_of known d.is) ∷ known)
 
--- A loop takes a signal without a name, and one with its own.
-abbrev pub has_name : Option (List ℕ) → List ℕ → Bool
-has_name None name = false
-has_name (Some own) name = bytes_eq own name
-
-abbrev pub takes : Option (List ℕ) → Option (List ℕ) → Bool
-takes construct None = true
-takes construct (Some name) = has_name construct name
-
-abbrev pub exits : Option (List ℕ) → Signal → Bool
-exits construct (Exits name) = takes construct name
-exits construct (Cycles name) = false
-
-abbrev pub cycles : Option (List ℕ) → Signal → Bool
-cycles construct (Cycles name) = takes construct name
-cycles construct (Exits name) = false
-
-abbrev pub turn_of : Option (List ℕ) → Doing → Doing
-turn_of construct body = bind body (landing (cycles construct))
-
-abbrev pub choose : Doing → Doing → Bool → Doing
-choose a b true = a
-choose a b false = b
-
-abbrev pub next_statement : M (Unit {0}) → Doing
-next_statement act = bind act (λ u. give None)
-
 -- a bound or a step, which is converted to kind 4 when it has been evaluated
 abbrev pub bound_value : Meant → Location → M ℤ
 bound_value e here = bind (converted 4 e here) (λ v. stuck (integer4_of v))
@@ -156,10 +141,6 @@ bound_value e here = bind (converted 4 e here) (λ v. stuck (integer4_of v))
 abbrev pub step_value : Option Meant → Location → M ℤ
 step_value None here = give (pos 1)
 step_value (Some e) here = bound_value e here
-
-abbrev pub then_step : Location → Binding → ℤ → Option Signal → Doing
-then_step here variable step None = next_statement (stepped here variable step)
-then_step here variable step (Some signal) = give (Some signal)
 
 abbrev pub condition_value : Option Meant → Location → M Bool
 condition_value None here = give true
@@ -176,19 +157,45 @@ abbrev pub stops : Location → ℕ → Option Meant → Doing
 stops here is_error None = stop (plain_status is_error)
 stops here is_error (Some code) = bind (code.value here) (λ v. bind (stuck (integer_of v)) (λ z. stop (status_of z)))
 
+-- A statement: how many loops stand in it, and what it does, by the loops around it, the number of its first loop, and the
+-- source's name.
+pub record Deed : Type 0 where
+  pub count : ℕ
+  pub does : Loops → ℕ → List ℕ → Doing
+
+abbrev pub count_all : List Deed → ℕ
+count_all [] = 0
+count_all (deed ∷ deeds) = deed.count + count_all deeds
+
+abbrev pub statements : Loops → ℕ → List ℕ → List Deed → Doing
+statements loops first source [] = give None
+statements loops first source (deed ∷ deeds) = bind (deed.does loops first source) (next_or (statements loops (first + deed.count) source deeds))
+
 -- a part of an `if`
 pub record Branch : Type 0 where
   pub line : ℕ
   pub condition : Option Meant
-  pub body : List ℕ → Doing
+  pub body : List Deed
 
-abbrev pub statements : List ℕ → List (List ℕ → Doing) → Doing
-statements source body = in_order (map (λ s. s source) body)
+abbrev pub count_branches : List Branch → ℕ
+count_branches [] = 0
+count_branches (b ∷ bs) = count_all b.body + count_branches bs
 
 -- The first part whose condition holds. Each condition is evaluated at its own line.
-abbrev pub branches : List ℕ → List Branch → Doing
-branches source [] = give None
-branches source (b ∷ bs) = bind (condition_value b.condition (at source b.line)) (choose (b.body source) (branches source bs))
+abbrev pub branches : Loops → ℕ → List ℕ → List Branch → Doing
+branches loops first source [] = give None
+branches loops first source (b ∷ bs) =
+    bind (condition_value b.condition (at source b.line)) (choose (statements loops first source b.body) (branches loops (first + count_all b.body) source bs))
+
+-- A loop is numbered in front of those that stand in it.
+abbrev pub within_loop : Option (List ℕ) → Loops → ℕ → Loops
+within_loop construct loops first = (first, construct) ∷ loops
+
+abbrev pub signals : Option ℕ → (ℕ → Signal) → Doing
+signals loop signal = bind (stuck loop) (λ id. give (Some (signal id)))
+
+abbrev pub plain_deed : (List ℕ → Doing) → Deed
+plain_deed act = record { count = 0; does = λ loops first source. act source }
 
 -- The declarations of a program of this name, and what is known of its constants.
 module _ (unit_name : List ℕ) (declared : List Declared) (known : Known) where
@@ -282,46 +289,48 @@ module _ (unit_name : List ℕ) (declared : List Declared) (known : Known) where
 
   -- where one execution of a loop makes at most n turns
   module _ (n : ℕ) where
-    abbrev pub do_turns : Location → Option (List ℕ) → Doing → Binding → ℤ → ℤ → ℕ → Doing
-    do_turns here construct body variable first step count =
-        bind (assign variable (Single (Integer 4 first))) (λ u.
-        bind (counted count n (bind (turn_of construct body) (then_step here variable step))) (landing (exits construct)))
-
-    abbrev pub do_loop : Location → Option (List ℕ) → M Binding → Meant → Meant → Option Meant → Doing → Doing
-    do_loop here construct variable lower upper step body =
+    abbrev pub do_loop : Location → ℕ → M Binding → Meant → Meant → Option Meant → Doing → Doing
+    do_loop here id variable lower upper step body =
         bind (bound_value lower here) (λ first. bind (bound_value upper here) (λ last. bind (step_value step here) (λ by.
-        bind (result here (turns first last by)) (λ count. bind variable (λ b. do_turns here construct body b first by count)))))
+        bind (result here (turns first last by)) (λ count. bind variable (λ b. do_turns n here id body b first by count)))))
 
-    abbrev pub while_loop : Location → Option (List ℕ) → Option Meant → Doing → Doing
-    while_loop here construct condition body = bind (iterate n (condition_value condition here) (turn_of construct body)) (landing (exits construct))
+    abbrev pub while_loop : Location → ℕ → Option Meant → Doing → Doing
+    while_loop here id condition body = while_turns n id (condition_value condition here) body
 
-    abbrev pub stmt_layer : Statement-F (List ℕ → Doing) Branch (Unit {0}) → List ℕ → Doing
-    stmt_layer (Statement-F.Assign line target value) source = next_statement (assigns (at source line) (designated target) (expression value))
-    stmt_layer (Statement-F.If line construct arms) source = branches source arms
-    stmt_layer (Statement-F.Do line construct variable lower upper step body) source =
-        do_loop (at source line) construct (name_meant variable (declared_as declared variable)).place (expression lower) (expression upper) (maybe step) (statements source body)
-    stmt_layer (Statement-F.While line construct condition body) source = while_loop (at source line) construct (maybe condition) (statements source body)
-    stmt_layer (Statement-F.Print line form advance items) source = next_statement (print_items (at source line) form advance (map print_item items))
-    stmt_layer (Statement-F.Stop line is_error code) source = stops (at source line) is_error (maybe code)
-    stmt_layer (Statement-F.Exit line construct) source = give (Some (Exits construct))
-    stmt_layer (Statement-F.Cycle line construct) source = give (Some (Cycles construct))
-    stmt_layer (Statement-F.Continue line) source = give None
-    stmt_layer (Statement-F.Select line construct value cases) source = wrong Stuck
-    stmt_layer (Statement-F.Call line name arguments) source = wrong Stuck
-    stmt_layer (Statement-F.Read line target iostat) source = wrong Stuck
-    stmt_layer (Statement-F.Return line) source = wrong Stuck
+    abbrev pub stmt_layer : Statement-F Deed Branch (Unit {0}) → Deed
+    stmt_layer (Statement-F.Assign line target value) = plain_deed (λ source. then_next (assigns (at source line) (designated target) (expression value)))
+    stmt_layer (Statement-F.If line construct arms) = record { count = count_branches arms; does = λ loops first source. branches loops first source arms }
+    stmt_layer (Statement-F.Do line construct variable lower upper step body) = record {
+      count = suc (count_all body);
+      does = λ loops first source.
+          do_loop (at source line) first (name_meant variable (declared_as declared variable)).place (expression lower) (expression upper) (maybe step)
+          (statements (within_loop construct loops first) (suc first) source body);
+    }
+    stmt_layer (Statement-F.While line construct condition body) = record {
+      count = suc (count_all body);
+      does = λ loops first source. while_loop (at source line) first (maybe condition) (statements (within_loop construct loops first) (suc first) source body);
+    }
+    stmt_layer (Statement-F.Print line form advance items) = plain_deed (λ source. then_next (print_items (at source line) form advance (map print_item items)))
+    stmt_layer (Statement-F.Stop line is_error code) = plain_deed (λ source. stops (at source line) is_error (maybe code))
+    stmt_layer (Statement-F.Exit line construct) = record { count = 0; does = λ loops first source. signals (loop_of loops construct) Exits }
+    stmt_layer (Statement-F.Cycle line construct) = record { count = 0; does = λ loops first source. signals (loop_of loops construct) Cycles }
+    stmt_layer (Statement-F.Continue line) = plain_deed (λ source. give None)
+    stmt_layer (Statement-F.Select line construct value cases) = plain_deed (λ source. wrong Stuck)
+    stmt_layer (Statement-F.Call line name arguments) = plain_deed (λ source. wrong Stuck)
+    stmt_layer (Statement-F.Read line target iostat) = plain_deed (λ source. wrong Stuck)
+    stmt_layer (Statement-F.Return line) = plain_deed (λ source. wrong Stuck)
 
-    abbrev pub arm_layer : Arm-F (List ℕ → Doing) Branch (Unit {0}) → Branch
-    arm_layer arm = record { line = arm.line; condition = maybe arm.condition; body = λ source. statements source arm.body }
+    abbrev pub arm_layer : Arm-F Deed Branch (Unit {0}) → Branch
+    arm_layer arm = record { line = arm.line; condition = maybe arm.condition; body = arm.body }
 
-    abbrev pub case_layer : Case-F (List ℕ → Doing) Branch (Unit {0}) → Unit {0}
+    abbrev pub case_layer : Case-F Deed Branch (Unit {0}) → Unit {0}
     case_layer case = tt
 
-    abbrev pub statement : Statement → List ℕ → Doing
-    statement = fold-Statement (List ℕ → Doing) Branch (Unit {0}) stmt_layer arm_layer case_layer
+    abbrev pub statement : Statement → Deed
+    statement = fold-Statement Deed Branch (Unit {0}) stmt_layer arm_layer case_layer
 
     abbrev pub block : List ℕ → List Statement → Doing
-    block source body = in_order (map (λ s. statement s source) body)
+    block source body = statements [] 1 source (map statement body)
 
 abbrev pub ended : Option Signal → M ℕ
 ended None = give 0

@@ -1,0 +1,4 @@
+//! The typed tree of a source.
+#![tactic(auto)]
+
+pub mod law;

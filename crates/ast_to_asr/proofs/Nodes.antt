@@ -1,10 +1,10 @@
 -- The tree of each node of a source, by its parts.
-use Rattle.std.proofs.Common.{◌≡◌, ℕ, List, map, Option, refl, sym, ap, ◌∙◌}
+use Rattle.std.proofs.Common.{◌≡◌, ℕ, List, map, Option, ◌∙◌}
 use Rattle.lf_base.specs.declared.name.Name.{Name}
 use Rattle.ast_nodes.specs.declared.expression.Designator.{Designator}
 use Rattle.ast_nodes.specs.declared.expression.Expr.{Expr, Expr-F}
 use Rattle.ast_nodes.specs.declared.expression.Expr.TheVariants.{Int, Log, Ref, Unary, Binary, Paren}
-use Rattle.ast_nodes.specs.declared.expression.RefPart.{RefPart, RefPart-F, Part, Group, fold-RefPart}
+use Rattle.ast_nodes.specs.declared.expression.RefPart.{RefPart, Part, Group, fold-RefPart}
 use Rattle.ast_nodes.specs.declared.statement.Arm.{Arm, fold-Arm}
 use Rattle.ast_nodes.specs.declared.statement.Statement.{Statement, Statement-F}
 use Rattle.ast_nodes.specs.declared.statement.Statement.TheVariants.{Assign, If, Do, While, Print, Stop, Exit, Cycle, Continue}

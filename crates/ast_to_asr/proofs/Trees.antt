@@ -7,7 +7,7 @@ use Rattle.ast_to_asr.specs.SmallTrees.{leaves_two_tree, mixes_kinds_tree, does_
 use Rattle.ast_to_asr.proofs.Nodes.{nodes}
 
 pub leaves_two_is : elab_file (codes "p.f90") leaves_two ≡ Some leaves_two_tree
-leaves_two_is = simp (nodes, constants) refl
+leaves_two_is = simp nodes refl
 
 pub mixes_kinds_is : elab_file (codes "p.f90") mixes_kinds ≡ Some mixes_kinds_tree
 mixes_kinds_is = simp (nodes, constants) refl
@@ -16,4 +16,4 @@ pub does_not_fit_is : elab_file (codes "p.f90") does_not_fit ≡ Some does_not_f
 does_not_fit_is = simp (nodes, constants) refl
 
 pub else_if_traps_is : elab_file (codes "p.f90") else_if_traps ≡ Some else_if_traps_tree
-else_if_traps_is = simp (nodes, constants) refl
+else_if_traps_is = simp nodes refl

@@ -2,7 +2,7 @@
 -- control. A part has a tree with its type, or none where it breaks a rule or has no rule yet. Operands of two kinds, and
 -- what is assigned or bounds a loop, get a Convert where the kinds differ.
 use Rattle.std.specs.Prelude.{ℕ, suc, ◌+◌, ◌==◌, ℤ, pos, Bool, true, false, ◌||◌, ◌&&◌, nat_le, if◌then◌else◌, List, [], ◌∷◌, ◌++◌, map, length, Option, Some, None}
-use Rattle.std.specs.Option.{option_map, option_and_then}
+use Rattle.std.specs.Option.{option_map}
 use Rattle.lf_base.specs.Operators.{operator_of}
 use Rattle.lf_base.specs.declared.operator.Operator.{Operator}
 use Rattle.lf_base.specs.declared.operator.Operator.TheVariants as operator
@@ -17,15 +17,12 @@ use Rattle.ast_nodes.specs.declared.file.Unit.TheVariants as unit
 use Rattle.ast_nodes.specs.declared.statement.Statement.{Statement}
 use Rattle.ast_nodes.specs.declared.statement.Statement.TheOpen.{Statement-F, Arm-F, Case-F}
 use Rattle.ast_nodes.specs.declared.statement.Statement.TheFolds.{fold-Statement}
-use Rattle.type_rules.specs.Values.{Scalar, Integer, Logical, Characters, Evaluation, Gives, Traps, NoRule, and_then, greatest, is_in_kind, is_kind}
-use Rattle.type_rules.specs.declared.code.TheConstants.{ABS, MOD, MODULO, MIN, MAX, SIGN}
-use Rattle.asr_nodes.specs.Reading.{Path}
+use Rattle.type_rules.specs.Values.{Scalar, Integer, Logical, Characters, Evaluation, Gives, Traps, NoRule, and_then, greatest, is_in_kind}
+use Rattle.type_rules.specs.declared.code.TheConstants.{ABS, MIN, MAX}
 use Rattle.asr_nodes.specs.declared.code.TheConstants.{PUBLIC, SAVED, PARAMETER, INTENT_NOT_SAID, TRUE, FALSE}
-use Rattle.asr_nodes.specs.declared.tree.ElemTree.{ElemTree}
 use Rattle.asr_nodes.specs.declared.tree.ElemTree.TheVariants as elem
 use Rattle.asr_nodes.specs.declared.tree.ExprTree.{ExprTree}
 use Rattle.asr_nodes.specs.declared.tree.ExprTree.TheVariants as e
-use Rattle.asr_nodes.specs.declared.tree.PrintItemTree.{PrintItemTree}
 use Rattle.asr_nodes.specs.declared.tree.PrintItemTree.TheVariants as item
 use Rattle.asr_nodes.specs.declared.tree.StmtTree.{StmtTree}
 use Rattle.asr_nodes.specs.declared.tree.StmtTree.TheVariants as s

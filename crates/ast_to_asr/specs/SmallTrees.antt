@@ -1,6 +1,6 @@
 -- The trees of small sources, by which ISO/IEC 1539-1:2018 is read: names by their paths, a Convert where kinds differ,
 -- constants for named constants, a step of 1, and an If in the else part for each `else if`.
-use Rattle.std.specs.Prelude.{ℕ, pos, List, [], ◌∷◌, codes, Option, Some}
+use Rattle.std.specs.Prelude.{ℕ, pos, List, [], ◌∷◌, codes}
 use Rattle.lf_base.specs.declared.operator.TheConstants.{ADD, SUBTRACT, DIVIDE, EQ}
 use Rattle.asr_nodes.specs.declared.code.TheConstants.{PUBLIC, SAVED, PARAMETER, INTENT_NOT_SAID, FORMAT_LIST, FALSE}
 use Rattle.asr_nodes.specs.declared.tree.ElemTree.TheVariants.{Integer}

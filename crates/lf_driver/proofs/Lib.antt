@@ -5,6 +5,7 @@ pub mod OneFile
 pub mod OnePrint
 pub mod Saving
 pub mod Showing
+pub mod Sorting
 mod SourceNames
 pub mod Statuses
 pub mod Straight

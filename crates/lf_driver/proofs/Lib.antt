@@ -3,6 +3,7 @@ pub mod HeadlineLemmas
 pub mod Names
 pub mod OneFile
 pub mod OnePrint
+pub mod OneStatus
 pub mod Saving
 pub mod Showing
 pub mod Sorting

@@ -6,12 +6,12 @@ use Rattle.lf_base.specs.Causes.{Rose, HasCause}
 use Rattle.lf_base.specs.Files.{Files}
 use Rattle.ast_nodes.specs.Text.{ast_text}
 use Rattle.lf_driver.specs.declared.command.Verb.{Verb}
-use Rattle.lf_driver.specs.declared.command.Verb.TheVariants.{Compile, Ast}
-use Rattle.lf_driver.specs.Answers.{OfCommand, Halts, IsUntouched, IsBehind, Succeeds, StopsAt, FailsToRead, FailsToWrite, WantsMemory, ComesTo, Answered, Quiet, Counting, status_by, IsExact, IsCounted}
+use Rattle.lf_driver.specs.declared.command.Verb.TheVariants.{Compile, Ast, Order}
+use Rattle.lf_driver.specs.Answers.{OfCommand, Halts, IsUntouched, IsBehind, Circles, Succeeds, StopsAt, FailsToRead, FailsToWrite, WantsMemory, ComesTo, Answered, Quiet, Counting, status_by, IsStatusBy, IsExact, IsCounted}
 use Rattle.lf_driver.specs.Call.{Stored, Held, Call, IsTried, Tries, Tells}
 use Rattle.lf_driver.specs.Refusal.{Refusal}
 use Rattle.lf_driver.specs.Refusal as refusal
-use Rattle.lf_driver.specs.Verdict.{Refuses, Shown, Told, AreWritten, of_left, of_command, written, verdict}
+use Rattle.lf_driver.specs.Verdict.{Refuses, Shown, Sorts, Told, AreWritten, of_left, of_command, written, verdict}
 use Rattle.lf_driver.specs.Words.{CommandText, words_of}
 
 pub told_at : (o : Option Files) (files : Files) (fact : Files → Type 0) → o ≡ Some files → Told o fact → fact files
@@ -42,6 +42,12 @@ untouched name names s t h =
 stops : (c : Call) (name : List ℕ) (verb : Verb) (names : List (List ℕ)) → StopsAt c name verb names → Same c.store c.store'
 stops c name Compile names h = untouched name names c.store c.store' h
 stops c name Ast names h = same_all c.store c.store' h.1
+stops c name Order names h = same_all c.store c.store' h.1
+
+circles : (c : Call) (cycle : List (List ℕ)) (verb : Verb) (names : List (List ℕ)) → Circles c cycle verb names → Same c.store c.store'
+circles c cycle Compile names h = absurd h
+circles c cycle Ast names h = absurd h
+circles c cycle Order names h = same_all c.store c.store' h.0
 
 -- no count of the store or of the sink of the trees rose
 abbrev Still : Call → Type 0
@@ -51,16 +57,19 @@ comes_still : (c : Call) (refused : Refusal) → ComesTo c refused → Still c
 comes_still c refusal.Usage h = (same_all c.store c.store' h.1, ap (λ x. x.faults) h.2)
 comes_still c (refusal.Absent name) h = (by_command (words_of c.words) (StopsAt c name) (Same c.store c.store') h.0 (stops c name), ap (λ x. x.faults) h.1)
 comes_still c (refusal.Refused name line rule) h = (by_command (words_of c.words) (StopsAt c name) (Same c.store c.store') h.0 (stops c name), ap (λ x. x.faults) h.1)
+comes_still c (refusal.Circular cycle) h = (by_command (words_of c.words) (Circles c cycle) (Same c.store c.store') h.0 (circles c cycle), ap (λ x. x.faults) h.1)
 
 succeeds_still : (c : Call) (verb : Verb) (names : List (List ℕ)) → Succeeds c verb names → Still c
 succeeds_still c Compile names h = ((h.0.reads, h.0.writes), ap (λ x. x.faults) h.1)
 succeeds_still c Ast names h = (same_all c.store c.store' h.0, h.1)
+succeeds_still c Order names h = (same_all c.store c.store' h.0, h.1)
 
 wants_still : (c : Call) (verb : Verb) (names : List (List ℕ)) → WantsMemory c verb names → Still c
 wants_still c Compile names h =
     let b = behind h.0.front c.store h.0.between h.0.behind in
     ((h.0.ends.reads ∙ b.0, h.0.ends.writes ∙ b.1), ap (λ x. x.faults) h.1)
 wants_still c Ast names h = (same_all c.store c.store' h.0, h.1)
+wants_still c Order names h = (same_all c.store c.store' h.0, h.1)
 
 -- a failed read raised its count, and no other one
 abbrev ReadRose : Call → Type 0
@@ -71,6 +80,7 @@ reading c Compile names h =
     let b = behind h.front c.store h.between h.behind in
     (subst (λ n. Rose n c.store'.reads) b.0 h.ends.reads, h.ends.writes ∙ b.1)
 reading c Ast names h = (h.reads, h.writes)
+reading c Order names h = (h.reads, h.writes)
 
 -- a failed write raised one of two counts, and no read failed
 abbrev WriteRose : Call → Type 0
@@ -81,6 +91,7 @@ writing c Compile names h =
     let b = behind h.0.front c.store h.0.between h.0.behind in
     (h.0.ends.reads ∙ b.0, inl (subst (λ n. Rose n c.store'.writes) b.1 h.0.ends.writes))
 writing c Ast names h = (ap (λ x. x.reads) h.0, inr h.2)
+writing c Order names h = (ap (λ x. x.reads) h.0, inr h.2)
 
 -- a count that rose has risen after another call
 rose_twice : (l m n : ℕ) → Rose l m → Rose m n → Rose l n
@@ -98,17 +109,24 @@ not_risen : (before now : ℕ) → before < 2 ^ 64 - 1 → now ≡ before → Ro
 not_risen before now some same rose = omega (arith, some, same, rose)
 
 -- the verdict by which a call succeeds or is refused
-succeeded : (c : Call) (files : Files) (o : Option CommandText) → words_of c.words ≡ o → c.store.files ≡ Some files → OfCommand o (Succeeds c) → 0 ≡ status_by (verdict c.words files)
+succeeded : (c : Call) (files : Files) (o : Option CommandText) → words_of c.words ≡ o → c.store.files ≡ Some files → OfCommand o (Succeeds c) → IsStatusBy (verdict c.words files) 0
 succeeded c files None w e h = absurd h
 succeeded c files (Some (Compile, number, names)) w e h =
     let t = told_at c.store.files files (AreWritten names c.store'.files) e h.0.files in
-    sym (ap (λ x. status_by (of_command x files)) w ∙ ap (λ s. status_by (of_left (written files names).files s)) t.0)
-succeeded c files (Some (Ast, number, names)) w e h = sym (ap status_by (told_at c.store.files files (λ f. verdict c.words f ≡ Shown (ast_text h.2.0)) e h.2.1))
+    subst (λ v. IsStatusBy v 0) (sym (ap (λ x. of_command x files) w ∙ ap (λ s. of_left (written files names).files s) t.0)) refl
+succeeded c files (Some (Ast, number, names)) w e h = subst (λ v. IsStatusBy v 0) (sym (told_at c.store.files files (λ f. verdict c.words f ≡ Shown (ast_text h.2.0)) e h.2.1)) refl
+succeeded c files (Some (Order, number, names)) w e h = subst (λ v. IsStatusBy v 0) (sym (told_at c.store.files files (λ f. verdict c.words f ≡ Sorts names h.2.trees) e h.2.judged)) (inl (refl, (h.2.order, h.2.least)))
 
-refused_is : (c : Call) (files : Files) (refused : Refusal) → c.store.files ≡ Some files → ComesTo c refused → status_by (Refuses refused) ≡ status_by (verdict c.words files)
-refused_is c files refusal.Usage e h = sym (ap (λ o. status_by (of_command o files)) h.0)
-refused_is c files (refusal.Absent name) e h = sym (ap status_by (told_at c.store.files files (λ f. verdict c.words f ≡ Refuses (refusal.Absent name)) e h.2))
-refused_is c files (refusal.Refused name line rule) e h = sym (ap status_by (told_at c.store.files files (λ f. verdict c.words f ≡ Refuses (refusal.Refused name line rule)) e h.2))
+circled : (c : Call) (files : Files) (cycle : List (List ℕ)) → c.store.files ≡ Some files → (verb : Verb) (names : List (List ℕ)) → Circles c cycle verb names → IsStatusBy (verdict c.words files) 8
+circled c files cycle e Compile names h = absurd h
+circled c files cycle e Ast names h = absurd h
+circled c files cycle e Order names h = subst (λ v. IsStatusBy v 8) (sym (told_at c.store.files files (λ f. verdict c.words f ≡ Sorts names h.1.trees) e h.1.judged)) (inr (refl, (h.1.places, h.1.named)))
+
+refused_is : (c : Call) (files : Files) (refused : Refusal) → c.store.files ≡ Some files → ComesTo c refused → IsStatusBy (verdict c.words files) (status_by refused)
+refused_is c files refusal.Usage e h = subst (λ v. IsStatusBy v 2) (sym (ap (λ o. of_command o files) h.0)) refl
+refused_is c files (refusal.Absent name) e h = subst (λ v. IsStatusBy v 2) (sym (told_at c.store.files files (λ f. verdict c.words f ≡ Refuses (refusal.Absent name)) e h.2)) refl
+refused_is c files (refusal.Refused name line rule) e h = subst (λ v. IsStatusBy v 1) (sym (told_at c.store.files files (λ f. verdict c.words f ≡ Refuses (refusal.Refused name line rule)) e h.2)) refl
+refused_is c files (refusal.Circular cycle) e h = by_command (words_of c.words) (Circles c cycle) (IsStatusBy (verdict c.words files) 8) h.0 (circled c files cycle e)
 
 no_write : (c : Call) → Quiet c → Counting c → WriteRose c → ⊥
 no_write c quiet counting (r, inl w) = not_risen c.store.writes c.store'.writes counting.1 quiet.1 w
@@ -123,7 +141,10 @@ exact (suc (suc (suc zero))) c h files e quiet counting = absurd (not_risen c.st
 exact (suc (suc (suc (suc zero)))) c (inl h) files e quiet counting = absurd (no_write c quiet counting (by_command (words_of c.words) (FailsToWrite c) (WriteRose c) h.0 (writing c)))
 exact (suc (suc (suc (suc zero)))) c (inr h) files e quiet counting = absurd (not_risen c.err.faults c.err'.faults counting.3 quiet.3 (untold_rose c.err h.2.0 c.err' _ _ h.2.1 h.2.2))
 exact (suc (suc (suc (suc (suc zero))))) c h files e quiet counting = inr refl
-exact (suc (suc (suc (suc (suc (suc status)))))) c h files e quiet counting = absurd h
+exact (suc (suc (suc (suc (suc (suc zero)))))) c h files e quiet counting = absurd h
+exact (suc (suc (suc (suc (suc (suc (suc zero))))))) c h files e quiet counting = absurd h
+exact (suc (suc (suc (suc (suc (suc (suc (suc zero)))))))) c h files e quiet counting = inl (refused_is c files (refusal.Circular h.0) e h.1.0)
+exact (suc (suc (suc (suc (suc (suc (suc (suc (suc status))))))))) c h files e quiet counting = absurd h
 
 not_less : (m n : ℕ) → n ≡ m → m < n → ⊥
 not_less m n e h = omega (arith, e, h)
@@ -149,7 +170,10 @@ counted (suc (suc (suc (suc zero)))) c (inl h) =
 counted (suc (suc (suc (suc zero)))) c (inr h) = counted_still 4 c (comes_still c h.0 h.1) (λ l. (omega arith, omega arith))
 counted (suc (suc (suc (suc (suc zero))))) c (inl h) = counted_still 5 c (by_command (words_of c.words) (WantsMemory c) (Still c) h.0 (wants_still c)) (λ l. (omega arith, omega arith))
 counted (suc (suc (suc (suc (suc zero))))) c (inr h) = counted_still 5 c (comes_still c h.0 h.1) (λ l. (omega arith, omega arith))
-counted (suc (suc (suc (suc (suc (suc status)))))) c h = absurd h
+counted (suc (suc (suc (suc (suc (suc zero)))))) c h = absurd h
+counted (suc (suc (suc (suc (suc (suc (suc zero))))))) c h = absurd h
+counted (suc (suc (suc (suc (suc (suc (suc (suc zero)))))))) c h = counted_still 8 c (comes_still c (refusal.Circular h.0) h.1.0) (told_whole c.err c.err' _ _ h.1.1)
+counted (suc (suc (suc (suc (suc (suc (suc (suc (suc status))))))))) c h = absurd h
 
 -- a text that was tried on a sink whose count does not rise
 pub stands : (old new : Held) (text : List ℕ) → Tries old new text → new.faults ≡ old.faults → old.faults < 2 ^ 64 - 1 → Tells old new text ⊎ IsTried (Err put.Memory) old new text

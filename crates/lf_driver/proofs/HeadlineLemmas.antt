@@ -13,9 +13,9 @@ use Rattle.ff_parser.proofs.Written.{found}
 use Rattle.c_prelude.specs.PreludeFile.{IsGrammatical}
 use Rattle.c_prelude.proofs.PreludeTexts.{prelude_spelled}
 use Rattle.lf_driver.specs.declared.command.Verb.{Verb}
-use Rattle.lf_driver.specs.declared.command.Verb.TheVariants.{Compile, Ast}
+use Rattle.lf_driver.specs.declared.command.Verb.TheVariants.{Compile, Ast, Order}
 use Rattle.lf_driver.specs.declared.outcome.Answer.{Answer}
-use Rattle.lf_driver.specs.declared.outcome.Answer.TheVariants.{Done, Usage, Absent, Refused, ReadFault, WriteFault, Memory}
+use Rattle.lf_driver.specs.declared.outcome.Answer.TheVariants.{Done, Usage, Absent, Refused, Circular, ReadFault, WriteFault, Memory}
 use Rattle.lf_driver.specs.Call.{Held, Call}
 use Rattle.lf_driver.specs.Compile.{Compiles}
 use Rattle.lf_driver.specs.Ends.{status_of, Does, Performs, Announces, Reports}
@@ -87,6 +87,7 @@ announced_done came Done a b h e = sym h.0
 announced_done came Usage a b h e = absurd (positive 2 2 (omega arith) refl e)
 announced_done came (Absent name) a b h e = absurd (positive 2 2 (omega arith) refl e)
 announced_done came (Refused name line rule) a b h e = absurd (positive 1 1 (omega arith) refl e)
+announced_done came (Circular told) a b h e = absurd (positive 8 8 (omega arith) refl e)
 announced_done came ReadFault a b h e = absurd (positive 3 3 (omega arith) refl e)
 announced_done came WriteFault a b h e = absurd (positive 4 4 (omega arith) refl e)
 announced_done came Memory a b h e = absurd (positive 5 5 (omega arith) refl e)
@@ -96,6 +97,7 @@ came_done Done told a b h e = refl
 came_done Usage told a b h e = announced_done Usage told a b h e
 came_done (Absent name) told a b h e = announced_done (Absent name) told a b h e
 came_done (Refused name line rule) told a b h e = announced_done (Refused name line rule) told a b h e
+came_done (Circular text) told a b h e = announced_done (Circular text) told a b h e
 came_done ReadFault told a b h e = absurd (positive 3 (status_of told) (omega arith) (sym (ap status_of h.0)) e)
 came_done WriteFault told a b h e = absurd (positive 4 (status_of told) (omega arith) (sym (ap status_of h.0)) e)
 came_done Memory told a b h e = absurd (positive 5 (status_of told) (omega arith) (sym (ap status_of h.0)) e)
@@ -117,9 +119,13 @@ compiles c files file came verb e v t d =
 no_words : (o : Option CommandText) (command : CommandText) → o ≡ None → o ≡ Some command → ⊥
 no_words o command h k = cc
 
+no_order : Order ≡ Compile → ⊥
+no_order h = cc
+
 means_all : (came : Answer) (c : Call) (files : Files) (names : List (List ℕ)) → AllByRecursion AreBytes c.words → came ≡ Done → c.store.files ≡ Some files → words_of c.words ≡ Some (Compile, 0, names) → Performs came c.words c.store c.store' c.out c.out' → Means c files names
 means_all came c files names b e t w (inl p) = absurd (no_words (words_of c.words) (Compile, 0, names) p.1 w)
-means_all came c files names b e t w (inr p) =
+means_all came c files names b e t w (inr (inr p)) = absurd (no_order (ap verb_of (sym p.1 ∙ w)))
+means_all came c files names b e t w (inr (inl p)) =
     let same = sym p.2 ∙ w in
     subst (Means c files) (ap names_of same) (means c files p.1 (named c.words b p.0 p.1 p.2) (compiles c files p.1 came p.0 e (ap verb_of same) t p.3))
 

@@ -1,8 +1,8 @@
 -- A list of one file ends at that file, with none before it.
 use Rattle.std.proofs.Common.{◌≡◌, ℕ, zero, suc, ◌<◌, List, [], ◌∷◌, ◌++◌, Option, Some, inl, inr, ap, subst, ◌∙◌, arith}
 use Rattle.lf_driver.specs.declared.command.Verb.{Verb}
-use Rattle.lf_driver.specs.declared.command.Verb.TheVariants.{Compile, Ast}
-use Rattle.lf_driver.specs.Answers.{OfCommand, Halts, IsUntouched, IsUnread, IsUnwritten, IsCutShort, IsBehind, StopsAt, FailsToRead, FailsToWrite, WantsMemory, ComesTo, Answered}
+use Rattle.lf_driver.specs.declared.command.Verb.TheVariants.{Compile, Ast, Order}
+use Rattle.lf_driver.specs.Answers.{OfCommand, Halts, Circles, IsUntouched, IsUnread, IsUnwritten, IsCutShort, IsBehind, StopsAt, FailsToRead, FailsToWrite, WantsMemory, ComesTo, Answered}
 use Rattle.lf_driver.specs.Call.{Stored, Call}
 use Rattle.lf_driver.specs.Refusal.{Refusal}
 use Rattle.lf_driver.specs.Refusal as refusal
@@ -29,23 +29,33 @@ module _ (c : Call) (file : List ℕ) where
   stopped : (name : List ℕ) (verb : Verb) → StopsAt c name verb (file ∷ []) → SameFiles c.store c.store'
   stopped name Compile h = halts_at_one (IsUntouched name) file c.store c.store' (untouched name) h
   stopped name Ast h = ap (λ x. x.files) h.1
+  stopped name Order h = ap (λ x. x.files) h.1
+
+  circled : (cycle : List (List ℕ)) (verb : Verb) → Circles c cycle verb (file ∷ []) → SameFiles c.store c.store'
+  circled cycle Compile h = absurd h
+  circled cycle Ast h = absurd h
+  circled cycle Order h = ap (λ x. x.files) h.0
 
   unread : (verb : Verb) → FailsToRead c verb (file ∷ []) → SameFiles c.store c.store'
   unread Compile h = halts_at_one IsUnread file c.store c.store' (λ f a b k. k.files) h
   unread Ast h = h.files
+  unread Order h = h.files
 
   unwritten : (verb : Verb) → FailsToWrite c verb (file ∷ []) → SameFiles c.store c.store'
   unwritten Compile h = halts_at_one IsUnwritten file c.store c.store' (λ f a b k. k.files) h.0
   unwritten Ast h = ap (λ x. x.files) h.0
+  unwritten Order h = ap (λ x. x.files) h.0
 
   short : (verb : Verb) → WantsMemory c verb (file ∷ []) → SameFiles c.store c.store'
   short Compile h = halts_at_one IsCutShort file c.store c.store' (λ f a b k. k.files) h.0
   short Ast h = ap (λ x. x.files) h.0
+  short Order h = ap (λ x. x.files) h.0
 
   refused_at : (verb : Verb) → words_of c.words ≡ Some (verb, 0, file ∷ []) → (refused : Refusal) → ComesTo c refused → SameFiles c.store c.store'
   refused_at verb w refusal.Usage h = ap (λ x. x.files) h.1
   refused_at verb w (refusal.Absent name) h = stopped name verb (of_command (words_of c.words) verb file (StopsAt c name) w h.0)
   refused_at verb w (refusal.Refused name line rule) h = stopped name verb (of_command (words_of c.words) verb file (StopsAt c name) w h.0)
+  refused_at verb w (refusal.Circular cycle) h = circled cycle verb (of_command (words_of c.words) verb file (Circles c cycle) w h.0)
 
   by_status : (status : ℕ) (verb : Verb) → words_of c.words ≡ Some (verb, 0, file ∷ []) → Answered status c → 0 < status → SameFiles c.store c.store'
   by_status zero verb w h positive = absurd (omega (arith, positive))
@@ -57,7 +67,10 @@ module _ (c : Call) (file : List ℕ) where
   by_status (suc (suc (suc (suc zero)))) verb w (inr h) positive = refused_at verb w h.0 h.1
   by_status (suc (suc (suc (suc (suc zero))))) verb w (inl h) positive = short verb (of_command (words_of c.words) verb file (WantsMemory c) w h.0)
   by_status (suc (suc (suc (suc (suc zero))))) verb w (inr h) positive = refused_at verb w h.0 h.1
-  by_status (suc (suc (suc (suc (suc (suc status)))))) verb w h positive = absurd h
+  by_status (suc (suc (suc (suc (suc (suc zero)))))) verb w h positive = absurd h
+  by_status (suc (suc (suc (suc (suc (suc (suc zero))))))) verb w h positive = absurd h
+  by_status (suc (suc (suc (suc (suc (suc (suc (suc zero)))))))) verb w h positive = refused_at verb w (refusal.Circular h.0) h.1.0
+  by_status (suc (suc (suc (suc (suc (suc (suc (suc (suc status))))))))) verb w h positive = absurd h
 
 pub files_stay : (status : ℕ) (c : Call) (verb : Verb) (file : List ℕ) → words_of c.words ≡ Some (verb, 0, file ∷ []) → Answered status c → 0 < status → c.store'.files ≡ c.store.files
 files_stay status c verb file w h positive = by_status c file status verb w h positive

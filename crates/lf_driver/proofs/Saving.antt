@@ -17,7 +17,7 @@ use Rattle.lf_base.specs.Files as base
 use Rattle.ff_lexer.specs.Statements.{spelled_as, found_in, drafts_of, statements_of}
 use Rattle.ast_nodes.specs.declared.file.File.{File}
 use Rattle.lf_driver.specs.declared.outcome.Answer.{Answer}
-use Rattle.lf_driver.specs.declared.outcome.Answer.TheVariants.{Done, Usage, Absent, Refused, ReadFault, WriteFault, Memory}
+use Rattle.lf_driver.specs.declared.outcome.Answer.TheVariants.{Done, Usage, Absent, Refused, Circular, ReadFault, WriteFault, Memory}
 use Rattle.lf_driver.specs.OnePrint.Built.{program_in, judged}
 use Rattle.lf_driver.specs.Front.{Parsed, then_file, front_of, then_built, source_in}
 use Rattle.lf_driver.specs.Known.{nothing}
@@ -83,6 +83,7 @@ text_there view v Usage old now new file h k t = absurd t
 text_there view v (Absent name) old now new file h k t = absurd t
 text_there view v (Refused name line rule) None now new file h k t = (t.1 ∙ k, tt, t.2)
 text_there view v (Refused name line rule) (Some files) now new file h k t = (t.1 ∙ k, ap (step nothing file) h.0 ∙ t.0, t.2)
+text_there view v (Circular told) old now new file h k t = absurd t
 text_there view v ReadFault old now new file h k t = absurd t
 text_there view v WriteFault old now new file h k t = t ∙ k
 text_there view v Memory old now new file h k t = t ∙ k

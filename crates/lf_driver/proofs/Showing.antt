@@ -9,7 +9,7 @@ use Rattle.lf_base.specs.Contents.{Appends, AppendsPart}
 use Rattle.lf_base.specs.Files.{Files, ReadGives}
 use Rattle.ast_nodes.specs.declared.file.File.{File}
 use Rattle.lf_driver.specs.declared.outcome.Answer.{Answer}
-use Rattle.lf_driver.specs.declared.outcome.Answer.TheVariants.{Done, Usage, Absent, Refused, ReadFault, WriteFault, Memory}
+use Rattle.lf_driver.specs.declared.outcome.Answer.TheVariants.{Done, Usage, Absent, Refused, Circular, ReadFault, WriteFault, Memory}
 use Rattle.lf_driver.specs.Front.{Parsed, front_of}
 use Rattle.lf_driver.specs.Refusal as refusal
 use Rattle.lf_driver.specs.Show.{GivesTree, Gains, GainsFront, IsTreeOf, IsTreeIn, TextShows, FileShows}
@@ -45,6 +45,7 @@ text_shows f w view v Usage files file a b h t = absurd t
 text_shows f w view v (Absent name) files file a b h t = absurd t
 text_shows f w view v (Refused name line rule) None file a b h t = (t.1, tt, t.2)
 text_shows f w view v (Refused name line rule) (Some files) file a b h t = (t.1, ap (of_shown file) h.0 ∙ t.0, t.2)
+text_shows f w view v (Circular told) files file a b h t = absurd t
 text_shows f w view v ReadFault files file a b h t = absurd t
 text_shows f w view v WriteFault files file a b h t = (t.0, (t.1.0, in_files view v files file t.1.0 h t.1.1, t.1.2))
 text_shows f w view v Memory files file a b h (inl t) = inl t

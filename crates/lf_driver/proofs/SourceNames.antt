@@ -1,14 +1,15 @@
 -- The words of a command are texts, so what they are made of are bytes; and a source's name has at most 255 of them.
 use Rattle.std.proofs.Common.{◌≡◌, ℕ, ◌<◌, ◌≤◌, Bool, true, false, List, [], ◌∷◌, ◌++◌, ◌+◌, ◌/◌, ◌%◌, length, map, Option, Some, None, string_bytes, cond, refl, ap, subst, arith}
-use Rattle.std.specs.Prelude.{ltb}
+use Rattle.std.specs.Prelude.{ltb, ◌&&◌}
 use Rattle.std.specs.declared.string.String.{String}
-use Rattle.std.specs.List.{AllByRecursion}
+use Rattle.std.specs.List.{AllByRecursion, list_all}
 use Rattle.std.specs.Char.{encode_utf8}
 use Rattle.std.specs.Str.{IsUtf8, all_scalars, encode_utf8_all}
 use Rattle.std.proofs.lemmas.Bool.Decides.{nat_tests}
 use Rattle.std.proofs.lemmas.Str.{IsUtf8-string_bytes}
 use Rattle.lf_driver.specs.declared.command.Verb.{Verb}
-use Rattle.lf_driver.specs.Words.{CommandText, is_source_name, verb_of, with_file, words_of}
+use Rattle.lf_driver.specs.Words.{CommandText, is_source_name, takes_files, verb_of, with_files, words_of}
+use Rattle.lf_driver.proofs.Names.{left_true, right_true}
 
 abbrev pub AreBytes : List ℕ → Type 0
 AreBytes = AllByRecursion (λ b. b < 256)
@@ -55,27 +56,25 @@ pub record IsName (file : List ℕ) : Type 0 where
   pub short : length file ≤ 255
   pub bytes : AreBytes file
 
-abbrev first_of : List (List ℕ) → List ℕ
-first_of [] = []
-first_of (file ∷ files) = file
-
-abbrev first_in : Option CommandText → List ℕ
-first_in None = []
-first_in (Some c) = first_of c.2
+abbrev files_in : Option CommandText → List (List ℕ)
+files_in None = []
+files_in (Some c) = c.2
 
 short_name : (file : List ℕ) → is_source_name file ≡ true → length file ≤ 255
 short_name file h = grind (arith, nat_tests)
 
 pub named : (words : List (List ℕ)) → AllByRecursion AreBytes words → (verb : Verb) (file : List ℕ) → words_of words ≡ Some (verb, 0, file ∷ []) → IsName file
 named [] h verb file e = absurd (cc)
-named (a ∷ []) h verb file e = absurd (cc)
-named (a ∷ b ∷ c ∷ more) h verb file e = absurd (cc)
-named (a ∷ b ∷ []) h verb file e = by_verb (verb_of a) e
+named (first ∷ files) h verb file e = by_verb (verb_of first) e
   where
-    by_name : (v : Verb) (t : Bool) → is_source_name b ≡ t → cond {A = Option CommandText} t (Some (v, 0, b ∷ [])) None ≡ Some (verb, 0, file ∷ []) → IsName file
-    by_name v true p q = let same : b ≡ file = ap first_in q in record { short = subst (λ f. length f ≤ 255) same (short_name b p); bytes = subst AreBytes same h.1.0 }
-    by_name v false p q = absurd (cc)
+    by_names : (v : Verb) (t : Bool) → (takes_files v (length files) && list_all is_source_name files) ≡ t → cond {A = Option CommandText} t (Some (v, 0, files)) None ≡ Some (verb, 0, file ∷ []) → IsName file
+    by_names v true p q =
+        let same : files ≡ file ∷ [] = ap files_in q in
+        let sources : list_all is_source_name (file ∷ []) ≡ true = subst (λ names. list_all is_source_name names ≡ true) same (right_true (takes_files v (length files)) (list_all is_source_name files) p) in
+        let bytes : AllByRecursion AreBytes (file ∷ []) = subst (AllByRecursion AreBytes) same h.1 in
+        record { short = short_name file (left_true (is_source_name file) true sources); bytes = bytes.0 }
+    by_names v false p q = absurd (cc)
 
-    by_verb : (o : Option Verb) → with_file o b ≡ Some (verb, 0, file ∷ []) → IsName file
+    by_verb : (o : Option Verb) → with_files o files ≡ Some (verb, 0, file ∷ []) → IsName file
     by_verb None q = absurd (cc)
-    by_verb (Some v) q = by_name v (is_source_name b) refl q
+    by_verb (Some v) q = by_names v (takes_files v (length files) && list_all is_source_name files) refl q

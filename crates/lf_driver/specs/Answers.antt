@@ -8,12 +8,15 @@ use Rattle.lf_base.specs.Contents.{Appends, AppendsPart}
 use Rattle.lf_base.specs.Files.{Files}
 use Rattle.ast_nodes.specs.declared.file.File.{File}
 use Rattle.ast_nodes.specs.Text.{ast_text}
+use Rattle.std.specs.List.{Contains}
+use Rattle.file_order.specs.Answers.{IsLeastFileOrder, IsNamedCycle}
 use Rattle.lf_driver.specs.declared.command.Verb.{Verb}
-use Rattle.lf_driver.specs.declared.command.Verb.TheVariants.{Compile, Ast}
+use Rattle.lf_driver.specs.declared.command.Verb.TheVariants.{Compile, Ast, Order}
 use Rattle.lf_driver.specs.Call.{Stored, Call, Tries, Tells, TellsInstead}
+use Rattle.lf_driver.specs.Order.{names_at, order_text}
 use Rattle.lf_driver.specs.Refusal.{Refusal, refusal_text, read_fault_text, write_fault_text, memory_text}
 use Rattle.lf_driver.specs.Refusal as refusal
-use Rattle.lf_driver.specs.Verdict.{Verdict, Refuses, Compiled, Shown, Told, AreWritten, c_name, verdict}
+use Rattle.lf_driver.specs.Verdict.{Verdict, Refuses, Compiled, Shown, Sorts, Told, AreWritten, c_name, verdict}
 use Rattle.lf_driver.specs.Words.{CommandText, words_of}
 
 -- the verdict on the words, where the store tells its files
@@ -84,21 +87,54 @@ ShowsTree c = (tree : File) × Judges c (Shown (ast_text tree)) × Appends c.out
 abbrev pub ShowsFront : Call → Type 0
 ShowsFront c = (tree : File) × Judges c (Shown (ast_text tree)) × AppendsPart c.out.bytes c.out'.bytes (ast_text tree)
 
--- 0: all files are compiled, or the tree is shown.
+-- The files of these names have an order, which is the least, and the sink has gained its text.
+pub record ShowsOrder (c : Call) (names : List (List ℕ)) : Type 0 where
+  pub trees : List File
+  pub judged : Judges c (Sorts names trees)
+  pub order : List ℕ
+  pub least : IsLeastFileOrder trees order
+  pub text : Appends c.out.bytes c.out'.bytes (order_text names order)
+
+-- the same with a front of it
+pub record ShowsOrderFront (c : Call) (names : List (List ℕ)) : Type 0 where
+  pub trees : List File
+  pub judged : Judges c (Sorts names trees)
+  pub order : List ℕ
+  pub least : IsLeastFileOrder trees order
+  pub text : AppendsPart c.out.bytes c.out'.bytes (order_text names order)
+
+-- The files of these names have no order: these are those on the cycle that they name.
+pub record NamesCycle (c : Call) (cycle names : List (List ℕ)) : Type 0 where
+  pub trees : List File
+  pub judged : Judges c (Sorts names trees)
+  pub places : List ℕ
+  pub named : IsNamedCycle trees places
+  pub is : cycle ≡ names_at names places
+
+-- 0: all files are compiled, or the tree or the order is shown.
 abbrev pub Succeeds : Call → Verb → List (List ℕ) → Type 0
 Succeeds c Compile names = IsCompiled names c.store c.store' × (c.out' ≡ c.out)
 Succeeds c Ast names = (c.store' ≡ c.store) × (c.out'.faults ≡ c.out.faults) × ShowsTree c
+Succeeds c Order names = (c.store' ≡ c.store) × (c.out'.faults ≡ c.out.faults) × ShowsOrder c names
 
 -- The file of this name is refused: those before it are compiled, and of it none is begun.
 abbrev pub StopsAt : Call → List ℕ → Verb → List (List ℕ) → Type 0
 StopsAt c name Compile names = Halts (IsUntouched name) names c.store c.store'
 StopsAt c name Ast names = (names ≡ name ∷ []) × (c.store' ≡ c.store)
+StopsAt c name Order names = Contains names name × (c.store' ≡ c.store)
+
+-- Files whose order is wanted wait for one another, and the store stays as it is.
+abbrev pub Circles : Call → List (List ℕ) → Verb → List (List ℕ) → Type 0
+Circles c cycle Compile names = ⊥
+Circles c cycle Ast names = ⊥
+Circles c cycle Order names = (c.store' ≡ c.store) × NamesCycle c cycle names
 
 -- what a call does that ends by this refusal
 abbrev pub ComesTo : Call → Refusal → Type 0
 ComesTo c refusal.Usage = (words_of c.words ≡ None) × (c.store' ≡ c.store) × (c.out' ≡ c.out)
 ComesTo c (refusal.Absent name) = OfCommand (words_of c.words) (StopsAt c name) × (c.out' ≡ c.out) × Judges c (Refuses (refusal.Absent name))
 ComesTo c (refusal.Refused name line rule) = OfCommand (words_of c.words) (StopsAt c name) × (c.out' ≡ c.out) × Judges c (Refuses (refusal.Refused name line rule))
+ComesTo c (refusal.Circular cycle) = OfCommand (words_of c.words) (Circles c cycle) × (c.out' ≡ c.out)
 
 abbrev pub IsRefused : Call → Refusal → Type 0
 IsRefused c refusal = ComesTo c refusal × Tells c.err c.err' (refusal_text refusal)
@@ -106,22 +142,25 @@ IsRefused c refusal = ComesTo c refusal × Tells c.err c.err' (refusal_text refu
 abbrev pub FailsToRead : Call → Verb → List (List ℕ) → Type 0
 FailsToRead c Compile names = Halts IsUnread names c.store c.store'
 FailsToRead c Ast names = IsUnread [] c.store c.store'
+FailsToRead c Order names = IsUnread [] c.store c.store'
 
--- The store could not be written, or the sink of the trees, which may fail.
+-- The store could not be written, or the sink of the trees and orders, which may fail.
 abbrev pub FailsToWrite : Call → Verb → List (List ℕ) → Type 0
 FailsToWrite c Compile names = Halts IsUnwritten names c.store c.store' × (c.out' ≡ c.out)
 FailsToWrite c Ast names = (c.store' ≡ c.store) × (c.out.may_fail ≡ true) × Rose c.out.faults c.out'.faults × ShowsFront c
+FailsToWrite c Order names = (c.store' ≡ c.store) × (c.out.may_fail ≡ true) × Rose c.out.faults c.out'.faults × ShowsOrderFront c names
 
 abbrev pub WantsMemory : Call → Verb → List (List ℕ) → Type 0
 WantsMemory c Compile names = Halts IsCutShort names c.store c.store' × (c.out' ≡ c.out)
 WantsMemory c Ast names = (c.store' ≡ c.store) × (c.out'.faults ≡ c.out.faults) × ((c.out'.bytes ≡ c.out.bytes) ⊎ ((c.out.takes_memory ≡ true) × ShowsFront c))
+WantsMemory c Order names = (c.store' ≡ c.store) × (c.out'.faults ≡ c.out.faults) × ((c.out'.bytes ≡ c.out.bytes) ⊎ ((c.out.takes_memory ≡ true) × ShowsOrderFront c names))
 
 -- The text of a refusal could not be written by this fault, and another one was tried.
 abbrev pub IsUntold : PutFault → Call → List ℕ → Type 0
 IsUntold fault c text = (refused : Refusal) × ComesTo c refused × TellsInstead fault c.err c.err' (refusal_text refused) text
 
 -- 0: done. 1: a file breaks a rule. 2: there is no such command or file. 3: a read failed. 4: a write failed. 5: memory ran
--- out.
+-- out. 8: files wait for one another.
 abbrev pub Answered : ℕ → Call → Type 0
 Answered zero c = OfCommand (words_of c.words) (Succeeds c) × (c.err' ≡ c.err)
 Answered (suc zero) c = (name : List ℕ) × (line : ℕ) × (rule : Rule) × IsRefused c (refusal.Refused name line rule)
@@ -129,16 +168,20 @@ Answered (suc (suc zero)) c = IsRefused c refusal.Usage ⊎ ((name : List ℕ) �
 Answered (suc (suc (suc zero))) c = OfCommand (words_of c.words) (FailsToRead c) × (c.out' ≡ c.out) × Tries c.err c.err' read_fault_text
 Answered (suc (suc (suc (suc zero)))) c = (OfCommand (words_of c.words) (FailsToWrite c) × Tries c.err c.err' write_fault_text) ⊎ IsUntold Failed c write_fault_text
 Answered (suc (suc (suc (suc (suc zero))))) c = (OfCommand (words_of c.words) (WantsMemory c) × Tries c.err c.err' memory_text) ⊎ IsUntold Memory c memory_text
-Answered (suc (suc (suc (suc (suc (suc status)))))) c = ⊥
+Answered (suc (suc (suc (suc (suc (suc zero)))))) c = ⊥
+Answered (suc (suc (suc (suc (suc (suc (suc zero))))))) c = ⊥
+Answered (suc (suc (suc (suc (suc (suc (suc (suc zero)))))))) c = (cycle : List (List ℕ)) × IsRefused c (refusal.Circular cycle)
+Answered (suc (suc (suc (suc (suc (suc (suc (suc (suc status))))))))) c = ⊥
 
--- The text of the status stands whole on the sink of texts: none of 0, the refusal of 1 and 2, and one text each of 3 to 5.
+-- The text of the status stands whole on the sink of texts: none of 0, the refusal of 1, 2 and 8, and one text each of 3 to 5.
 abbrev pub Says : ℕ → Call → Type 0
 Says zero c = c.err' ≡ c.err
 Says (suc zero) c = (refused : Refusal) × IsRefused c refused
 Says (suc (suc zero)) c = (refused : Refusal) × IsRefused c refused
 Says (suc (suc (suc zero))) c = Tells c.err c.err' read_fault_text
 Says (suc (suc (suc (suc zero)))) c = Tells c.err c.err' write_fault_text
-Says (suc (suc (suc (suc (suc status))))) c = Tells c.err c.err' memory_text
+Says (suc (suc (suc (suc (suc zero))))) c = Tells c.err c.err' memory_text
+Says (suc (suc (suc (suc (suc (suc status)))))) c = (refused : Refusal) × IsRefused c refused
 
 -- It does where that sink neither fails nor takes memory.
 abbrev pub IsSaid : ℕ → Call → Type 0
@@ -152,17 +195,24 @@ Quiet c = (c.store'.reads ≡ c.store.reads) × (c.store'.writes ≡ c.store.wri
 abbrev pub Counting : Call → Type 0
 Counting c = (c.store.reads < 2 ^ 64 - 1) × (c.store.writes < 2 ^ 64 - 1) × (c.out.faults < 2 ^ 64 - 1) × (c.err.faults < 2 ^ 64 - 1)
 
--- the status of a verdict
-abbrev pub status_by : Verdict → ℕ
-status_by (Compiled files) = 0
-status_by (Shown text) = 0
-status_by (Refuses (refusal.Refused name line rule)) = 1
-status_by (Refuses (refusal.Absent name)) = 2
-status_by (Refuses refusal.Usage) = 2
+-- the status of a refusal
+abbrev pub status_by : Refusal → ℕ
+status_by (refusal.Refused name line rule) = 1
+status_by (refusal.Absent name) = 2
+status_by refusal.Usage = 2
+status_by (refusal.Circular names) = 8
+
+-- the status of a verdict: of trees that are sorted, 0 where they have an order, and 8 where they name a cycle, and they have
+-- not both
+abbrev pub IsStatusBy : Verdict → ℕ → Type 0
+IsStatusBy (Compiled files) status = status ≡ 0
+IsStatusBy (Shown text) status = status ≡ 0
+IsStatusBy (Sorts names trees) status = ((status ≡ 0) × ((order : List ℕ) × IsLeastFileOrder trees order)) ⊎ ((status ≡ 8) × ((places : List ℕ) × IsNamedCycle trees places))
+IsStatusBy (Refuses refused) status = status ≡ status_by refused
 
 -- Where the store tells its files and no count rose, the status is the verdict's, or memory ran out.
 abbrev pub IsExact : ℕ → Call → Type 0
-IsExact status c = (files : Files) → c.store.files ≡ Some files → Quiet c → Counting c → (status ≡ status_by (verdict c.words files)) ⊎ (status ≡ 5)
+IsExact status c = (files : Files) → c.store.files ≡ Some files → Quiet c → Counting c → IsStatusBy (verdict c.words files) status ⊎ (status ≡ 5)
 
 -- A count that rises decides the status: 3 by a failed read, 4 by a failed write of the store or of the sink of the trees,
 -- and 3, 4 or 5 where a text that tells could not be written.

@@ -6,7 +6,9 @@ pub mod Front
 pub mod Headline
 pub mod Known
 pub mod OnePrint
+pub mod Order
 pub mod Refusal
 pub mod Show
+pub mod Sort
 pub mod Verdict
 pub mod Words

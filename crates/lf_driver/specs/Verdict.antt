@@ -1,5 +1,5 @@
 -- What a command comes to, by its words and the files of the store alone.
-use Rattle.std.specs.Prelude.{◌≡◌, ℕ, ◌-◌, List, [], ◌∷◌, ◌++◌, length, take, codes, Option, Some, None, Ok, Err}
+use Rattle.std.specs.Prelude.{◌≡◌, ℕ, ◌-◌, List, [], ◌∷◌, ◌++◌, length, take, codes, Option, Some, None, Result, Ok, Err}
 use Rattle.std.specs.FinMap.{get, insert}
 use Rattle.lf_base.specs.declared.rule.Rule.TheVariants.{E306}
 use Rattle.lf_base.specs.Files.{Files}
@@ -7,7 +7,7 @@ use Rattle.ast_nodes.specs.declared.file.File.{File}
 use Rattle.ast_nodes.specs.Text.{ast_text}
 use Rattle.c_nodes.specs.Text.{file_text}
 use Rattle.lf_driver.specs.declared.command.Verb.{Verb}
-use Rattle.lf_driver.specs.declared.command.Verb.TheVariants.{Compile, Ast}
+use Rattle.lf_driver.specs.declared.command.Verb.TheVariants.{Compile, Ast, Order}
 use Rattle.lf_driver.specs.OnePrint.Built.{Judged, judged, program_in}
 use Rattle.lf_driver.specs.OnePrint.Lowered.{c_file}
 use Rattle.lf_driver.specs.OnePrint.Source.{Source}
@@ -71,6 +71,8 @@ pub data Verdict : Type 0 where
   Compiled : (files : Files) → Verdict
   -- the text of the tree
   Shown : (text : List ℕ) → Verdict
+  -- the files of these names have these trees, whose order is wanted
+  Sorts : (names : List (List ℕ)) (trees : List File) → Verdict
 
 abbrev pub of_left : Files → Option Refusal → Verdict
 of_left files None = Compiled files
@@ -90,9 +92,33 @@ of_ast [] files = Refuses refusal.Usage
 of_ast (file ∷ []) files = of_shown file (get files file)
 of_ast (file ∷ other ∷ names) files = Refuses refusal.Usage
 
+abbrev pub tree_of : List ℕ → Parsed → Result File Refusal
+tree_of file (Ok tree) = Ok tree
+tree_of file (Err fault) = Err (refusal.Refused file fault.0 fault.1)
+
+-- the tree of the file of a name, by what the store has under it, or why there is none
+abbrev pub tree_in : List ℕ → Option (List ℕ) → Result File Refusal
+tree_in file None = Err (refusal.Absent file)
+tree_in file (Some text) = tree_of file (front_of text)
+
+abbrev pub before_trees : Result File Refusal → Result (List File) Refusal → Result (List File) Refusal
+before_trees (Ok tree) (Ok trees) = Ok (tree ∷ trees)
+before_trees (Ok tree) (Err refusal) = Err refusal
+before_trees (Err refusal) more = Err refusal
+
+-- the trees of the files of a list, or the refusal of the first that has none
+abbrev pub trees_of : Files → List (List ℕ) → Result (List File) Refusal
+trees_of files [] = Ok []
+trees_of files (file ∷ names) = before_trees (tree_in file (get files file)) (trees_of files names)
+
+abbrev pub of_trees : List (List ℕ) → Result (List File) Refusal → Verdict
+of_trees names (Ok trees) = Sorts names trees
+of_trees names (Err refusal) = Refuses refusal
+
 abbrev pub of_files : Verb → List (List ℕ) → Files → Verdict
 of_files Compile names files = of_left (written files names).files (written files names).stopped
 of_files Ast names files = of_ast names files
+of_files Order names files = of_trees names (trees_of files names)
 
 abbrev pub of_command : Option CommandText → Files → Verdict
 of_command None files = Refuses refusal.Usage

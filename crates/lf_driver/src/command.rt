@@ -1,5 +1,6 @@
 ghost use Rattle.std.specs.Prelude.{◌≡◌, map, string_bytes};
-ghost use Rattle.lf_driver.specs.Words.{begins_with_hyphen, is_source_name, verb_of, WordsGive};
+ghost use Rattle.std.specs.List.{list_all};
+ghost use Rattle.lf_driver.specs.Words.{begins_with_hyphen, is_source_name, takes_files, verb_of, with_files, CommandGives, WordsGive};
 
 /// What the program is asked to do.
 #[derive(Clone, Copy, Debug, PartialEq, Eq)]
@@ -8,6 +9,8 @@ pub enum Verb {
     Compile,
     /// Prints the tree of a file.
     Ast,
+    /// Prints the names of the files in the order in which they compile.
+    Order,
 }
 
 /// The words of a command line, read.
@@ -45,34 +48,61 @@ fn verb_named(word: &[u8]) -> Option<Verb>
         Some(Verb::Compile)
     } else if word == b"ast".as_slice() {
         Some(Verb::Ast)
+    } else if word == b"order".as_slice() {
+        Some(Verb::Order)
     } else {
         None
     }
 }
 
-/// The command that the words are: `compile` or `ast` with one file. The name of a file ends in `.f90`, does
-/// not begin with `-` and has 4 to 255 bytes. All other words are refused.
+// Whether the verb takes so many files.
+fn takes_files(verb: Verb, count: usize) -> bool
+    ensures { result ≡ takes_files verb count }
+{
+    match verb {
+        Verb::Compile | Verb::Ast => count == 1,
+        Verb::Order => 1 <= count,
+    }
+}
+
+fn are_source_names(files: &[String]) -> bool
+    ensures { result ≡ list_all is_source_name (map string_bytes files.now) }
+{
+    for file in files {
+        if !is_source_name(file.as_bytes()) {
+            return false;
+        }
+    }
+    true
+}
+
+// The command of a verb and its files.
+fn with_files(verb: Option<Verb>, files: &[String]) -> Result<Command, Usage>
+    ensures { CommandGives result (with_files verb (map string_bytes files.now)) }
+{
+    match verb {
+        Some(verb) => {
+            if takes_files(verb, files.len()) && are_source_names(files) {
+                Ok(Command {
+                    verb,
+                    number: 0,
+                    files,
+                })
+            } else {
+                Err(Usage)
+            }
+        }
+        None => Err(Usage),
+    }
+}
+
+/// The command that the words are: `compile` or `ast` with one file, or `order` with one or more. The name of a
+/// file ends in `.f90`, does not begin with `-` and has 4 to 255 bytes. All other words are refused.
 pub fn words(words: &[String]) -> Result<Command, Usage>
     ensures { WordsGive result (map string_bytes words.now) }
 {
     match words {
-        [first, files @ ..] => match files {
-            [file] => match verb_named(first.as_bytes()) {
-                Some(verb) => {
-                    if is_source_name(file.as_bytes()) {
-                        Ok(Command {
-                            verb,
-                            number: 0,
-                            files,
-                        })
-                    } else {
-                        Err(Usage)
-                    }
-                }
-                None => Err(Usage),
-            },
-            _ => Err(Usage),
-        },
+        [first, files @ ..] => with_files(verb_named(first.as_bytes()), files),
         [] => Err(Usage),
     }
 }

@@ -1,36 +1,16 @@
-ghost use Rattle.std.specs.Prelude.{◌≡◌, true, false, None, map, string_bytes};
+ghost use Rattle.std.specs.Prelude.{◌≡◌, false, None, map, string_bytes};
 ghost use Rattle.lf_driver.specs.Call.{held, stored};
-ghost use Rattle.lf_driver.specs.Ends.{Performs, VerbBegins, VerbComesTo, VerbCounts};
+ghost use Rattle.lf_driver.specs.Ends.{Performs};
 ghost use Rattle.lf_driver.specs.Headline.{Promises};
-ghost use Rattle.lf_driver.specs.Words.{ends_as_source, words_of, shown_by, shows};
+ghost use Rattle.lf_driver.specs.Words.{words_of, shows};
 
 use crate::command::{Verb, words as read_words};
 use crate::compile::compile_file;
 use crate::outcome::{Answer, report};
 use crate::show::show_file;
+use crate::sort::sort_files;
 use lf_base::{Sink, Source, Store};
 use std::alloc::Global;
-
-// What comes of a file by the verb.
-fn do_file<'a, S: Store, O: Sink>(
-    alloc: Global,
-    verb: Verb,
-    file: &'a str,
-    store: &mut S,
-    out: &mut O,
-) -> Answer<'a>
-    requires { ends_as_source file.now ≡ true }
-    ensures comes { VerbComesTo O.may_fail O.takes_memory result verb file.now (S.files store.old) (S.files store.new) (O.contents out.old) (O.contents out.new) }
-    ensures pending { VerbBegins result verb file.now (S.pending store.old) (S.pending store.new) (S.contents store.old) (S.contents store.new) }
-    ensures counts { VerbCounts result verb (S.read_faults store.old) (S.read_faults store.new) (S.Sink.faults store.old) (S.Sink.faults store.new) (O.faults out.old) (O.faults out.new) }
-    ensures out { shown_by verb ≡ false → out.new ≡ out.old }
-    ensures keeps { O.keeps out.old out.new }
-{
-    match verb {
-        Verb::Compile => compile_file(alloc, file, store),
-        Verb::Ast => show_file(alloc, file, store, out),
-    }
-}
 
 // What comes of the words. Words that are no command leave all as it is.
 #[tactic(auto, using(crate::proofs::Names::command_files))]
@@ -47,22 +27,31 @@ fn perform<'a, S: Store, O: Sink>(
 {
     match read_words(words) {
         Err(_) => Answer::Usage,
-        Ok(command) => match command.files {
-            [file, ..] => do_file(alloc, command.verb, file.as_str(), store, out),
-            [] => Answer::Usage,
+        Ok(command) => match command.verb {
+            Verb::Compile => match command.files {
+                [file, ..] => compile_file(alloc, file.as_str(), store),
+                [] => Answer::Usage,
+            },
+            Verb::Ast => match command.files {
+                [file, ..] => show_file(alloc, file.as_str(), store, out),
+                [] => Answer::Usage,
+            },
+            Verb::Order => sort_files(alloc, command.files, store, out),
         },
     }
 }
 
 /// Does what the words say and answers the status.
 ///
-/// - 0: `compile` has written the C file of each source, or `ast` has shown the tree.
+/// - 0: `compile` has written the C file of each source, `ast` has shown the tree, or `order` has shown the names of
+///   the sources in the order in which they compile.
 /// - 1: a source breaks a rule, which is told with its line.
 /// - 2: the words are no command, or name a file that is not there.
 /// - 3: a read failed. 4: a write failed. 5: memory ran out.
+/// - 8: the sources of `order` wait for one another, which is told by their names.
 ///
-/// Words that are no command leave the store, the input and the output as they were. `ast` and a source that is refused
-/// begin no file. At 0 of `compile` the C files mean what the sources say, where the store tells its files.
+/// Words that are no command leave the store, the input and the output as they were. `ast`, `order` and a source that is
+/// refused begin no file. At 0 of `compile` the C files mean what the sources say, where the store tells its files.
 pub fn lf_main<S: Store, I: Source, O: Sink, E: Sink>(
     alloc: Global,
     words: &[String],

@@ -9,6 +9,7 @@ pub mod law;
 mod one_print;
 mod outcome;
 mod show;
+mod sort;
 
 pub use command::{Command, Usage, Verb, words};
 pub use driver::lf_main;

@@ -10,7 +10,7 @@ use itoa::Buffer;
 use lf_base::{PutFault, Rule, Sink};
 
 /// What a call has come to.
-#[derive(Clone, Copy)]
+#[derive(Drop)]
 pub(crate) enum Answer<'a> {
     Done,
     Usage,
@@ -23,6 +23,10 @@ pub(crate) enum Answer<'a> {
         name: &'a str,
         line: u32,
         rule: Rule,
+    },
+    /// Files wait for one another, which the text tells.
+    Circular {
+        text: Vec<u8>,
     },
     ReadFault,
     WriteFault,
@@ -95,8 +99,8 @@ fn put_nothing<O: Sink>(before: Ended, out: &mut O) -> Ended
     before
 }
 
-fn put_text<O: Sink>(before: Ended, out: &mut O, outcome: Answer) -> Ended
-    ensures text { Puts before result (O.contents out.old) (O.contents out.new) (text_of outcome.entry) }
+fn put_text<O: Sink>(before: Ended, out: &mut O, outcome: &Answer) -> Ended
+    ensures text { Puts before result (O.contents out.old) (O.contents out.new) (text_of outcome.now) }
     ensures cause { Causes O.may_fail O.takes_memory before result (O.faults out.old) (O.faults out.new) }
     ensures keeps { O.keeps out.old out.new }
 {
@@ -108,9 +112,10 @@ fn put_text<O: Sink>(before: Ended, out: &mut O, outcome: Answer) -> Ended
             before,
             out,
             name.as_bytes(),
-            line,
-            rule,
+            *line,
+            *rule,
         ),
+        Answer::Circular { text } => put(before, out, text.as_slice()),
         Answer::ReadFault => put(before, out, b"lf: read fault\n"),
         Answer::WriteFault => put(before, out, b"lf: write fault\n"),
         Answer::Memory => put(before, out, b"lf: out of memory\n"),
@@ -119,18 +124,18 @@ fn put_text<O: Sink>(before: Ended, out: &mut O, outcome: Answer) -> Ended
 
 // Tells what came. Where that can't be written, the fault that this is is told in its place.
 #[tactic(auto, using(crate::proofs::Tellings::tellings))]
-fn tell<E: Sink>(err: &mut E, outcome: Answer) -> Result<(), PutFault>
-    ensures tells { TellsOr outcome.entry result (held E.may_fail E.takes_memory (E.contents err.old) (E.faults err.old)) (held E.may_fail E.takes_memory (E.contents err.new) (E.faults err.new)) }
+fn tell<E: Sink>(err: &mut E, outcome: &Answer) -> Result<(), PutFault>
+    ensures tells { TellsOr outcome.now result (held E.may_fail E.takes_memory (E.contents err.old) (E.faults err.old)) (held E.may_fail E.takes_memory (E.contents err.new) (E.faults err.new)) }
     ensures keeps { E.keeps err.old err.new }
 {
     match put_text(Ok(()), err, outcome) {
         Ok(()) => Ok(()),
         Err(PutFault::Failed) => {
-            let _ = put_text(Ok(()), err, Answer::WriteFault);
+            let _ = put_text(Ok(()), err, &Answer::WriteFault);
             Err(PutFault::Failed)
         }
         Err(PutFault::Memory) => {
-            let _ = put_text(Ok(()), err, Answer::Memory);
+            let _ = put_text(Ok(()), err, &Answer::Memory);
             Err(PutFault::Memory)
         }
     }
@@ -145,24 +150,43 @@ pub(crate) fn report<'a, E: Sink>(err: &mut E, outcome: Answer<'a>) -> Answer<'a
 {
     match outcome {
         Answer::Done => Answer::Done,
-        Answer::Usage => match tell(err, outcome) {
+        Answer::Usage => match tell(err, &Answer::Usage) {
             Ok(()) => Answer::Usage,
             Err(PutFault::Failed) => Answer::WriteFault,
             Err(PutFault::Memory) => Answer::Memory,
         },
-        Answer::Absent { name } => match tell(err, outcome) {
+        Answer::Absent { name } => match tell(err, &Answer::Absent { name }) {
             Ok(()) => Answer::Absent { name },
             Err(PutFault::Failed) => Answer::WriteFault,
             Err(PutFault::Memory) => Answer::Memory,
         },
-        Answer::Refused { name, line, rule } => match tell(err, outcome) {
+        Answer::Refused { name, line, rule } => match tell(
+            err,
+            &Answer::Refused { name, line, rule },
+        ) {
             Ok(()) => Answer::Refused { name, line, rule },
             Err(PutFault::Failed) => Answer::WriteFault,
             Err(PutFault::Memory) => Answer::Memory,
         },
-        Answer::ReadFault | Answer::WriteFault | Answer::Memory => {
-            let _ = put_text(Ok(()), err, outcome);
-            outcome
+        Answer::Circular { text } => {
+            let circular = Answer::Circular { text };
+            match tell(err, &circular) {
+                Ok(()) => circular,
+                Err(PutFault::Failed) => Answer::WriteFault,
+                Err(PutFault::Memory) => Answer::Memory,
+            }
+        }
+        Answer::ReadFault => {
+            let _ = put_text(Ok(()), err, &Answer::ReadFault);
+            Answer::ReadFault
+        }
+        Answer::WriteFault => {
+            let _ = put_text(Ok(()), err, &Answer::WriteFault);
+            Answer::WriteFault
+        }
+        Answer::Memory => {
+            let _ = put_text(Ok(()), err, &Answer::Memory);
+            Answer::Memory
         }
     }
 }
@@ -179,6 +203,7 @@ impl Answer<'_> {
             Answer::ReadFault => 3,
             Answer::WriteFault => 4,
             Answer::Memory => 5,
+            Answer::Circular { .. } => 8,
         }
     }
 }

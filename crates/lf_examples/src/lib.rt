@@ -8,6 +8,8 @@ mod compile;
 #[cfg(test)]
 mod lexical;
 #[cfg(test)]
+mod order;
+#[cfg(test)]
 mod run;
 #[cfg(test)]
 mod syntax;

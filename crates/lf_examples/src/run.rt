@@ -34,12 +34,23 @@ pub(crate) fn ran(
     name: &str,
     source: &[u8],
 ) -> Result<Left, AllocError> {
+    ran_over(alloc, words, &[(name, source)])
+}
+
+/// Calls the program with these words, where the store has these files.
+pub(crate) fn ran_over(
+    alloc: Global,
+    words: &[&str],
+    named: &[(&str, &[u8])],
+) -> Result<Left, AllocError> {
     let mut files = Vec::new(alloc);
-    let file = (
-        String::from_str(alloc, name)?,
-        Vec::from_slice(alloc, source)?,
-    );
-    files.push(file)?;
+    for (name, source) in named {
+        let file = (
+            String::from_str(alloc, name)?,
+            Vec::from_slice(alloc, source)?,
+        );
+        files.push(file)?;
+    }
     let mut store = SureStore::new(alloc, files).map_err(failed)?;
     let words = text(alloc, words)?;
     let mut input = SureSource::new(Vec::new(alloc));

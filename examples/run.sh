@@ -15,14 +15,19 @@ if [ ! -x "$program" ]; then
 fi
 work=$(mktemp -d) || exit 1
 trap 'rm -rf "$work"' EXIT
+checks='-std=c99 -pedantic -fsanitize=undefined,address -fno-sanitize-recover=all'
 
 # What an example prints, in the file `printed`, and what it tells, in the file `told`.
 run_example() {
     mkdir "$work/$1" && cp "$examples/$1"/*.f90 "$work/$1" && cd "$work/$1" || return 1
-    for source in *.f90; do
-        "$program" compile "$source" || return 1
-    done
-    cc -std=c99 -pedantic -fsanitize=undefined,address -fno-sanitize-recover=all -o built ./*.c || return 1
+    if [ -f "$examples/$1/Makefile" ] && command -v make > "$work/make"; then
+        make -s -f "$examples/$1/Makefile" LFORTRAN="$program" CC=cc CFLAGS="$checks" built || return 1
+    else
+        for source in *.f90; do
+            "$program" compile "$source" || return 1
+        done
+        cc $checks -o built ./*.c || return 1
+    fi
     ./built > printed 2> told
     echo "status $?" >> told
 }

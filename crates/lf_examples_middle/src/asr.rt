@@ -159,21 +159,52 @@ fn small_program_is_shown(rt: HostRuntime) -> Result<(), Fail> {
     Ok(())
 }
 
-/// The program with this statement at the end of the chain.
-fn chain_text(alloc: Global, last: &[u8]) -> Result<SureSink, Fail> {
-    let mut sink = SureSink::new(alloc)?;
-    sink.put(b"(Program p \"p.f90\" [] [\n] [")?;
+/// The front of a chain's text.
+fn open_arms(sink: &mut SureSink) -> Result<(), Fail> {
     for line in 1..STOP_LINE {
         sink.put(b"(If ")?;
         sink.put(itoa::Buffer::new().format(line).as_bytes())?;
         sink.put(b" (LogConst 1) [] [")?;
     }
-    sink.put(last)?;
+    Ok(())
+}
+
+fn close_arms(sink: &mut SureSink) -> Result<(), Fail> {
     for _ in 0..ARMS {
         sink.put(b"])")?;
     }
+    Ok(())
+}
+
+/// The program with this statement at the end of the chain.
+fn chain_text(alloc: Global, last: &[u8]) -> Result<SureSink, Fail> {
+    let mut sink = SureSink::new(alloc)?;
+    sink.put(b"(Program p \"p.f90\" [] [\n] [")?;
+    open_arms(&mut sink)?;
+    sink.put(last)?;
+    close_arms(&mut sink)?;
     sink.put(b"])\n")?;
     Ok(sink)
+}
+
+/// A chain of `else if` with this statement at its end.
+fn chain(rt: &impl Abort, alloc: Global, asr: &mut Asr, end: StmtId) -> Result<StmtId, Fail> {
+    let mut first = end;
+    for place in 0..ARMS {
+        first = arm(rt, alloc, asr, ARMS - place, first)?;
+    }
+    Ok(first)
+}
+
+/// Whether the text of the unit is that of the chain with this statement at its end.
+fn ends_in(
+    rt: &impl Abort,
+    alloc: Global,
+    asr: &Asr,
+    unit: SymId,
+    last: &[u8],
+) -> Result<bool, Fail> {
+    Ok(shown(rt, alloc, asr, unit)?.bytes() == chain_text(alloc, last)?.bytes())
 }
 
 #[test]
@@ -182,51 +213,59 @@ fn long_chain_is_edited_at_its_end(rt: HostRuntime) -> Result<(), Fail> {
     let mut asr = Asr::new(alloc)?;
     let seven = literal(&mut asr, 7)?;
     let end = stop(&rt, &mut asr, STOP_LINE, seven)?;
-    let mut first = end;
-    for place in 0..ARMS {
-        first = arm(&rt, alloc, &mut asr, ARMS - place, first)?;
-    }
+    let first = chain(&rt, alloc, &mut asr, end)?;
     let unit = program(&rt, alloc, &mut asr, first)?;
-    assert!(&rt;
-        shown(&rt, alloc, &asr, unit)?.bytes()
-            == chain_text(alloc, b"(Stop 10001 0 (IntConst 4 7))")?.bytes()
-    );
+    assert!(&rt; ends_in(&rt, alloc, &asr, unit, b"(Stop 10001 0 (IntConst 4 7))")?);
     let _ = stop_there(&rt, &mut asr, end, 8)?;
-    assert!(&rt;
-        shown(&rt, alloc, &asr, unit)?.bytes()
-            == chain_text(alloc, b"(Stop 10001 0 (IntConst 4 8))")?.bytes()
-    );
+    assert!(&rt; ends_in(&rt, alloc, &asr, unit, b"(Stop 10001 0 (IntConst 4 8))")?);
     block_there(&rt, alloc, &mut asr, end, 9)?;
     assert!(&rt;
-        shown(&rt, alloc, &asr, unit)?.bytes()
-            == chain_text(
-                alloc,
-                b"(Block 10001 [(Exit 10001 1) (Stop 10001 0 (IntConst 4 9))])"
-            )?
-            .bytes()
+        ends_in(
+            &rt,
+            alloc,
+            &asr,
+            unit,
+            b"(Block 10001 [(Exit 10001 1) (Stop 10001 0 (IntConst 4 9))])"
+        )?
     );
     Ok(())
+}
+
+/// An expression in so many parentheses.
+fn parenthesised(rt: &impl Abort, asr: &mut Asr, inner: ExprId) -> Result<ExprId, Fail> {
+    let mut e = inner;
+    for _ in 0..DEPTH {
+        assert!(rt; asr.has_expr(e));
+        e = asr.build_expr(Expr::Paren { inner: e })?;
+    }
+    Ok(e)
+}
+
+fn repeat(sink: &mut SureSink, piece: &[u8]) -> Result<(), Fail> {
+    for _ in 0..DEPTH {
+        sink.put(piece)?;
+    }
+    Ok(())
+}
+
+fn deep_text(alloc: Global) -> Result<SureSink, Fail> {
+    let mut sink = SureSink::new(alloc)?;
+    sink.put(b"(Program p \"p.f90\" [] [\n] [(Stop 2 0 ")?;
+    repeat(&mut sink, b"(Paren ")?;
+    sink.put(b"(IntConst 4 7)")?;
+    repeat(&mut sink, b")")?;
+    sink.put(b")])\n")?;
+    Ok(sink)
 }
 
 #[test]
 fn deep_expression_is_shown(rt: HostRuntime) -> Result<(), Fail> {
     let alloc = rt.alloc();
     let mut asr = Asr::new(alloc)?;
-    let mut expected = SureSink::new(alloc)?;
-    expected.put(b"(Program p \"p.f90\" [] [\n] [(Stop 2 0 ")?;
-    let mut e = literal(&mut asr, 7)?;
-    for _ in 0..DEPTH {
-        assert!(&rt; asr.has_expr(e));
-        e = asr.build_expr(Expr::Paren { inner: e })?;
-        expected.put(b"(Paren ")?;
-    }
-    expected.put(b"(IntConst 4 7)")?;
-    for _ in 0..DEPTH {
-        expected.put(b")")?;
-    }
-    expected.put(b")])\n")?;
-    let end = stop(&rt, &mut asr, 2, e)?;
+    let seven = literal(&mut asr, 7)?;
+    let deep = parenthesised(&rt, &mut asr, seven)?;
+    let end = stop(&rt, &mut asr, 2, deep)?;
     let unit = program(&rt, alloc, &mut asr, end)?;
-    assert!(&rt; shown(&rt, alloc, &asr, unit)?.bytes() == expected.bytes());
+    assert!(&rt; shown(&rt, alloc, &asr, unit)?.bytes() == deep_text(alloc)?.bytes());
     Ok(())
 }

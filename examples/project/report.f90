@@ -1,0 +1,3 @@
+program report
+print *, 6 * 7 - 2
+end program report

@@ -1,7 +1,7 @@
 #!/bin/sh
 # Prints the time and the greatest memory of `order` over files of one module each, in a chain that is given backwards: for
 # 2,000 and for 20,000 files, with the ratio of the times, which is about 10 where all grows with the size; beside the time
-# of `ast` over the same files, and over one file that holds all their modules, with its output dropped; and the bytes of
+# of `ast` over the same files, and over ten files that hold all their modules, with its output dropped; and the bytes of
 # memory for a byte of source. Then the same for files that all hold one module beside as many that use it. It is no part of
 # the gate.
 set -eu
@@ -63,10 +63,10 @@ for shape in (chain, crowd):
         print(f"{shape.__name__} of {count:6} files, {size:9} bytes: {times[count]:7.3f} s, {memory / size:5.1f} bytes a byte of source")
     print(f"{shape.__name__}: ten times the files take {times[LARGE] / times[SMALL]:.1f} times the time")
     with open("all.f90", "w") as file:
-        file.writelines(text for _, text in shape(LARGE))
-    joined = shortest(program, ["ast", "all.f90"])
+        file.writelines(text for _, text in shape(SMALL))
+    joined = shortest(program, ["ast", "all.f90"]) * (LARGE // SMALL)
     each = sum(shortest(program, ["ast", name]) for name in names[::EACH]) * EACH
-    print(f"{shape.__name__}: {times[LARGE] / joined:.2f} times the time of `ast` of one file with all modules, "
+    print(f"{shape.__name__}: {times[LARGE] / joined:.2f} times the time of `ast` of ten files with all modules, "
           f"{times[LARGE] / each:.2f} times that of `ast` of each file")
     if shape is chain:
         wanted = "".join(f"{name}\n" for name in reversed(names)).encode()

@@ -143,19 +143,23 @@ fn shown(rt: &impl Abort, alloc: Global, asr: &Asr, unit: SymId) -> Result<SureS
     Ok(sink)
 }
 
+fn is_small_shown(rt: &impl Abort, alloc: Global, asr: &mut Asr) -> Result<bool, Fail> {
+    let two = literal(asr, 2)?;
+    let three = literal(asr, 3)?;
+    let five = sum(rt, asr, two, three)?;
+    let last = stop(rt, asr, 2, five)?;
+    let unit = program(rt, alloc, asr, last)?;
+    Ok(
+        shown(rt, alloc, asr, unit)?.bytes()
+            == b"(Program p \"p.f90\" [] [\n] [(Stop 2 0 (Binary 0 (IntConst 4 2) (IntConst 4 3)))])\n".as_slice(),
+    )
+}
+
 #[test]
 fn small_program_is_shown(rt: HostRuntime) -> Result<(), Fail> {
     let alloc = rt.alloc();
     let mut asr = Asr::new(alloc)?;
-    let two = literal(&mut asr, 2)?;
-    let three = literal(&mut asr, 3)?;
-    let five = sum(&rt, &mut asr, two, three)?;
-    let last = stop(&rt, &mut asr, 2, five)?;
-    let unit = program(&rt, alloc, &mut asr, last)?;
-    assert_eq!(&rt;
-        shown(&rt, alloc, &asr, unit)?.bytes(),
-        b"(Program p \"p.f90\" [] [\n] [(Stop 2 0 (Binary 0 (IntConst 4 2) (IntConst 4 3)))])\n".as_slice()
-    );
+    assert!(&rt; is_small_shown(&rt, alloc, &mut asr)?);
     Ok(())
 }
 
@@ -207,27 +211,29 @@ fn ends_in(
     Ok(shown(rt, alloc, asr, unit)?.bytes() == chain_text(alloc, last)?.bytes())
 }
 
+/// Builds a chain and edits the statement at its end, twice.
+fn is_chain_edited(
+    rt: &impl Abort,
+    alloc: Global,
+    asr: &mut Asr,
+) -> Result<(bool, bool, bool), Fail> {
+    let seven = literal(asr, 7)?;
+    let end = stop(rt, asr, STOP_LINE, seven)?;
+    let first = chain(rt, alloc, asr, end)?;
+    let unit = program(rt, alloc, asr, first)?;
+    let built = ends_in(rt, alloc, asr, unit, b"(Stop 10001 0 (IntConst 4 7))")?;
+    let _ = stop_there(rt, asr, end, 8)?;
+    let replaced = ends_in(rt, alloc, asr, unit, b"(Stop 10001 0 (IntConst 4 8))")?;
+    block_there(rt, alloc, asr, end, 9)?;
+    let block = b"(Block 10001 [(Exit 10001 1) (Stop 10001 0 (IntConst 4 9))])";
+    Ok((built, replaced, ends_in(rt, alloc, asr, unit, block)?))
+}
+
 #[test]
 fn long_chain_is_edited_at_its_end(rt: HostRuntime) -> Result<(), Fail> {
     let alloc = rt.alloc();
     let mut asr = Asr::new(alloc)?;
-    let seven = literal(&mut asr, 7)?;
-    let end = stop(&rt, &mut asr, STOP_LINE, seven)?;
-    let first = chain(&rt, alloc, &mut asr, end)?;
-    let unit = program(&rt, alloc, &mut asr, first)?;
-    assert!(&rt; ends_in(&rt, alloc, &asr, unit, b"(Stop 10001 0 (IntConst 4 7))")?);
-    let _ = stop_there(&rt, &mut asr, end, 8)?;
-    assert!(&rt; ends_in(&rt, alloc, &asr, unit, b"(Stop 10001 0 (IntConst 4 8))")?);
-    block_there(&rt, alloc, &mut asr, end, 9)?;
-    assert!(&rt;
-        ends_in(
-            &rt,
-            alloc,
-            &asr,
-            unit,
-            b"(Block 10001 [(Exit 10001 1) (Stop 10001 0 (IntConst 4 9))])"
-        )?
-    );
+    assert_eq!(&rt; is_chain_edited(&rt, alloc, &mut asr)?, (true, true, true));
     Ok(())
 }
 
@@ -258,14 +264,18 @@ fn deep_text(alloc: Global) -> Result<SureSink, Fail> {
     Ok(sink)
 }
 
+fn is_deep_shown(rt: &impl Abort, alloc: Global, asr: &mut Asr) -> Result<bool, Fail> {
+    let seven = literal(asr, 7)?;
+    let deep = parenthesised(rt, asr, seven)?;
+    let end = stop(rt, asr, 2, deep)?;
+    let unit = program(rt, alloc, asr, end)?;
+    Ok(shown(rt, alloc, asr, unit)?.bytes() == deep_text(alloc)?.bytes())
+}
+
 #[test]
 fn deep_expression_is_shown(rt: HostRuntime) -> Result<(), Fail> {
     let alloc = rt.alloc();
     let mut asr = Asr::new(alloc)?;
-    let seven = literal(&mut asr, 7)?;
-    let deep = parenthesised(&rt, &mut asr, seven)?;
-    let end = stop(&rt, &mut asr, 2, deep)?;
-    let unit = program(&rt, alloc, &mut asr, end)?;
-    assert!(&rt; shown(&rt, alloc, &asr, unit)?.bytes() == deep_text(alloc)?.bytes());
+    assert!(&rt; is_deep_shown(&rt, alloc, &mut asr)?);
     Ok(())
 }

@@ -1,2 +1,4 @@
+pub mod Arguments
+mod Constants
 pub mod Nodes
 mod Trees

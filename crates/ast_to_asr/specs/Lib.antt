@@ -1,2 +1,10 @@
+pub mod Built
+pub mod Declarations
+pub mod Demanded
 pub mod Elab
+pub mod Expressions
+pub mod Judged
+pub mod Scope
+pub mod SmallFaults
 pub mod SmallTrees
+pub mod Statements

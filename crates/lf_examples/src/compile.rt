@@ -1,8 +1,5 @@
-use crate::run::{failed, ran, text};
-use lf_base::{MemStore, SureSink, SureSource};
-use lf_driver::lf_main;
+use crate::run::{Failing, ran, ran_failing};
 use std::alloc::{AllocError, Global};
-use std::process::Abort;
 use std::test::Fail;
 
 // The sum and the product of three literals, behind the prelude.
@@ -104,40 +101,41 @@ const SUMS: [(&str, &str); 2] = [
     ),
 ];
 
-#[test]
-fn a_program_becomes_its_c_file(rt: HostRuntime) -> Result<(), Fail> {
-    let alloc = rt.alloc();
-    for (source, behind) in SUMS {
-        let left = ran(
-            alloc,
-            &["compile", "x/p1.f90"],
-            "x/p1.f90",
-            source.as_bytes(),
-        )?;
-        assert_eq!(rt; left.status, 0);
-        assert!(rt; left.out.bytes().is_empty());
-        assert!(rt; left.err.bytes().is_empty());
-        let c = left.store.file("x/p1.c").unwrap_or(b"");
-        assert!(rt; c.starts_with(HEAD.as_bytes()));
-        let front = c.strip_suffix(behind.as_bytes()).unwrap_or(b"");
-        assert!(rt; front.ends_with(FOOT.as_bytes()));
-    }
-    Ok(())
+/// Whether a program becomes its C file behind the prelude, and nothing is told.
+fn becomes(alloc: Global, source: &str, behind: &str) -> Result<bool, AllocError> {
+    let left = ran(
+        alloc,
+        &["compile", "x/p1.f90"],
+        "x/p1.f90",
+        source.as_bytes(),
+    )?;
+    let c = left.store.file("x/p1.c").unwrap_or(b"");
+    let front = c.strip_suffix(behind.as_bytes()).unwrap_or(b"");
+    let is_behind = c.starts_with(HEAD.as_bytes()) && front.ends_with(FOOT.as_bytes());
+    Ok(left.is(0, b"", b"") && is_behind)
 }
 
-// What `compile p1.f90` answers to each source: the status, and the text on `err`. A C file comes with status 0 alone.
-fn answers(rt: &impl Abort, alloc: Global, cases: &[(&str, u8, &str)]) -> Result<(), Fail> {
-    for (source, status, told) in cases {
-        let left = ran(alloc, &["compile", "p1.f90"], "p1.f90", source.as_bytes())?;
-        assert_eq!(rt; left.status, *status, "at {source}");
-        assert_eq!(rt; left.err.bytes(), told.as_bytes(), "at {source}");
-        assert!(rt; left.out.bytes().is_empty(), "at {source}");
-        assert!(rt;
-            left.store.file("p1.c").is_some() == (*status == 0),
-            "at {source}"
-        );
+/// The place of the first program that does not, if there is one.
+fn first_without_its_c(alloc: Global) -> Result<Option<usize>, AllocError> {
+    for (place, (source, behind)) in SUMS.iter().enumerate() {
+        if !becomes(alloc, source, behind)? {
+            return Ok(Some(place));
+        }
     }
-    Ok(())
+    Ok(None)
+}
+
+/// The place of the first source to which `compile p1.f90` does not answer its status and its text on `err`, or the C file
+/// does not come with status 0 alone.
+fn first_wrong(alloc: Global, cases: &[(&str, u8, &str)]) -> Result<Option<usize>, AllocError> {
+    for (place, (source, status, told)) in cases.iter().enumerate() {
+        let left = ran(alloc, &["compile", "p1.f90"], "p1.f90", source.as_bytes())?;
+        let has_file = left.store.file("p1.c").is_some();
+        if !left.is(*status, b"", told.as_bytes()) || has_file != (*status == 0) {
+            return Ok(Some(place));
+        }
+    }
+    Ok(None)
 }
 
 const SPELLINGS: [(&str, u8, &str); 9] = [
@@ -159,11 +157,6 @@ const SPELLINGS: [(&str, u8, &str); 9] = [
     ("program p\nprint *, 1\ncontains\nend\n", 0, ""),
     ("! nothing\n\n", 0, ""),
 ];
-
-#[test]
-fn any_spelling_is_compiled(rt: HostRuntime) -> Result<(), Fail> {
-    answers(&rt, rt.alloc(), &SPELLINGS)
-}
 
 const UNBUILT: [(&str, u8, &str); 18] = [
     (
@@ -210,11 +203,6 @@ const UNBUILT: [(&str, u8, &str); 18] = [
     ),
 ];
 
-#[test]
-fn a_form_that_is_not_built_is_told_at_its_line(rt: HostRuntime) -> Result<(), Fail> {
-    answers(&rt, rt.alloc(), &UNBUILT)
-}
-
 const PHASES: [(&str, u8, &str); 10] = [
     // bytes that begin no token, wherever they are, before statements in no form
     ("program _p\nprint *, 1\nend\n", 1, "p1.f90:1: E101\n"),
@@ -250,22 +238,13 @@ const PHASES: [(&str, u8, &str); 10] = [
     ("\n\n\nprogram p\n", 1, "p1.f90:4: E204\n"),
 ];
 
-#[test]
-fn each_phase_comes_before_the_next(rt: HostRuntime) -> Result<(), Fail> {
-    answers(&rt, rt.alloc(), &PHASES)
-}
-
-#[test]
-fn a_file_without_units_is_the_prelude_alone(rt: HostRuntime) -> Result<(), Fail> {
-    let alloc = rt.alloc();
+/// Whether a file without units becomes the prelude alone, whose last helper begins and ends once.
+fn is_prelude_alone(alloc: Global) -> Result<bool, AllocError> {
     let left = ran(alloc, &["compile", "e.f90"], "e.f90", b"")?;
-    assert_eq!(rt; left.status, 0);
     let c = left.store.file("e.c").unwrap_or(b"");
     let front = c.strip_suffix(FOOT.as_bytes()).unwrap_or(b"");
-    assert!(rt; front.starts_with(HEAD.as_bytes()));
-    // the last helper begins and ends once
-    assert!(rt; front.ends_with(b"return 0;\n}\n"));
-    Ok(())
+    let is_whole = front.starts_with(HEAD.as_bytes()) && front.ends_with(b"return 0;\n}\n");
+    Ok(left.is(0, b"", b"") && is_whole)
 }
 
 // `print*,1`, and so many times `+1` behind it, in a program whose name has so many letters.
@@ -288,18 +267,19 @@ const LIMITS: [(usize, usize, u8, &str); 3] = [
     (62, 64, 1, "p1.f90:1: E105\n"),
 ];
 
-#[test]
-fn lines_and_names_have_limits(rt: HostRuntime) -> Result<(), Fail> {
-    let alloc = rt.alloc();
-    // 8 bytes and 62 times 2 make a line of 132
-    for (ones, letters, status, told) in LIMITS {
-        let source = long_source(alloc, ones, letters)?;
+/// The place of the first limit that is not told so, if there is one: 8 bytes and 62 times 2 make a line of 132.
+fn first_limit_not_told(alloc: Global) -> Result<Option<usize>, AllocError> {
+    for (place, (ones, letters, status, told)) in LIMITS.iter().enumerate() {
+        let source = long_source(alloc, *ones, *letters)?;
         let left = ran(alloc, &["compile", "p1.f90"], "p1.f90", source.as_slice())?;
-        assert_eq!(rt; left.status, status, "at {ones}");
-        assert_eq!(rt; left.err.bytes(), told.as_bytes(), "at {ones}");
+        if !left.is(*status, b"", told.as_bytes()) {
+            return Ok(Some(place));
+        }
     }
-    Ok(())
+    Ok(None)
 }
+
+const SOURCE: &[u8] = b"program p\nprint *, 1\nend program p\n";
 
 const USAGE: &str = "lf: usage: COMMAND [--turns=N] FILE ...\n";
 
@@ -318,23 +298,18 @@ const OTHER_WORDS: [(&[&str], &str); 12] = [
     (&["compile", ".f90"], "lf: no such file: .f90\n"),
 ];
 
-#[test]
-fn other_words_are_refused(rt: HostRuntime) -> Result<(), Fail> {
-    let alloc = rt.alloc();
-    for (words, told) in OTHER_WORDS {
-        let left = ran(
-            alloc,
-            words,
-            "p1.f90",
-            b"program p\nprint *, 1\nend program p\n",
-        )?;
-        assert_eq!(rt; left.status, 2, "at {told}");
-        assert_eq!(rt; left.err.bytes(), told.as_bytes(), "at {told}");
-        assert!(rt; left.out.bytes().is_empty());
+/// The place of the first words that are not refused so, if there are such.
+fn first_words_not_refused(alloc: Global) -> Result<Option<usize>, AllocError> {
+    for (place, (words, told)) in OTHER_WORDS.iter().enumerate() {
+        let left = ran(alloc, words, "p1.f90", SOURCE)?;
+        if !left.is(2, b"", told.as_bytes()) {
+            return Ok(Some(place));
+        }
     }
-    Ok(())
+    Ok(None)
 }
 
+/// What `compile p1.f90` answers where this call of the store fails: the read, the start, the put and the finish.
 const STORE_FAULTS: [(u64, u8, &str); 5] = [
     (0, 3, "lf: read fault\n"),
     (1, 4, "lf: write fault\n"),
@@ -343,35 +318,46 @@ const STORE_FAULTS: [(u64, u8, &str); 5] = [
     (4, 0, ""),
 ];
 
-#[test]
-fn faults_of_the_store_are_told(rt: HostRuntime) -> Result<(), Fail> {
-    let alloc = rt.alloc();
-    // the read, the start, the put and the finish
-    for (call, status, told) in STORE_FAULTS {
-        let mut files = Vec::new(alloc);
-        let source = Vec::from_slice(alloc, b"program p\nprint *, 1\nend program p\n")?;
-        files.push((String::from_str(alloc, "p1.f90")?, source))?;
-        let mut fails = Vec::new(alloc);
-        fails.push(call)?;
-        let mut store = MemStore::new(alloc, files, fails).map_err(failed)?;
-        let words = text(alloc, &["compile", "p1.f90"])?;
-        let mut input = SureSource::new(Vec::new(alloc));
-        let mut out = SureSink::new(alloc).map_err(failed)?;
-        let mut err = SureSink::new(alloc).map_err(failed)?;
-        let answer = lf_main(
+/// The place of the first call of the store whose failure is not told so, if there is one.
+fn first_fault_not_told(alloc: Global) -> Result<Option<usize>, AllocError> {
+    for (place, (call, status, told)) in STORE_FAULTS.iter().enumerate() {
+        let failing = Failing {
+            store: Some(*call),
+            out: None,
+        };
+        let left = ran_failing(
             alloc,
-            words.as_slice(),
-            &mut store,
-            &mut input,
-            &mut out,
-            &mut err,
-        );
-        assert_eq!(rt; answer, status, "at call {call}");
-        assert_eq!(rt; err.bytes(), told.as_bytes(), "at call {call}");
-        assert!(rt;
-            store.file("p1.c").is_some() == (status == 0),
-            "at call {call}"
-        );
+            &["compile", "p1.f90"],
+            &[("p1.f90", SOURCE)],
+            failing,
+        )?;
+        let has_file = left.store.file("p1.c").is_some();
+        if !left.is(*status, b"", told.as_bytes()) || has_file != (*status == 0) {
+            return Ok(Some(place));
+        }
     }
+    Ok(None)
+}
+
+#[test]
+fn sources_become_their_c_files(rt: HostRuntime) -> Result<(), Fail> {
+    assert_eq!(rt; first_without_its_c(rt.alloc())?, None);
+    assert_eq!(rt; first_wrong(rt.alloc(), &SPELLINGS)?, None);
+    assert!(rt; is_prelude_alone(rt.alloc())?);
+    Ok(())
+}
+
+#[test]
+fn sources_are_refused(rt: HostRuntime) -> Result<(), Fail> {
+    assert_eq!(rt; first_wrong(rt.alloc(), &UNBUILT)?, None);
+    assert_eq!(rt; first_wrong(rt.alloc(), &PHASES)?, None);
+    assert_eq!(rt; first_limit_not_told(rt.alloc())?, None);
+    Ok(())
+}
+
+#[test]
+fn words_and_faults_of_the_store_are_told(rt: HostRuntime) -> Result<(), Fail> {
+    assert_eq!(rt; first_words_not_refused(rt.alloc())?, None);
+    assert_eq!(rt; first_fault_not_told(rt.alloc())?, None);
     Ok(())
 }

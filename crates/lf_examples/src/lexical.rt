@@ -1,4 +1,4 @@
-use crate::run::{refuses, shows, shows_lines};
+use crate::run::{STATEMENTS, first_lines_not_shown, first_not_refused, first_not_shown};
 use std::test::Fail;
 
 const FIRST_FAULTS: [(&[u8], &str); 9] = [
@@ -13,11 +13,6 @@ const FIRST_FAULTS: [(&[u8], &str); 9] = [
     (b"x = 1\n & y = 2\n", "s.f90:2: E106\n"),
 ];
 
-#[test]
-fn the_first_statement_with_a_fault_tells_its_least_rule(rt: HostRuntime) -> Result<(), Fail> {
-    refuses(&rt, rt.alloc(), &FIRST_FAULTS)
-}
-
 const DIGITS: [(&[u8], &str); 10] = [
     (b"x = 1e5\n", "s.f90:1: E107\n"),
     (b"x = 1.\n", "s.f90:1: E107\n"),
@@ -30,11 +25,6 @@ const DIGITS: [(&[u8], &str); 10] = [
     (b"x = 1_4a\n", "s.f90:1: E107\n"),
     (b"x = 1_4.5\n", "s.f90:1: E101\n"),
 ];
-
-#[test]
-fn digits_are_followed_by_no_letter(rt: HostRuntime) -> Result<(), Fail> {
-    refuses(&rt, rt.alloc(), &DIGITS)
-}
 
 const BYTES: [(&[u8], &str); 12] = [
     (b"x = $\n", "s.f90:1: E101\n"),
@@ -54,11 +44,6 @@ const BYTES: [(&[u8], &str); 12] = [
     (b"x = 'ab&\n&\n&cd'\n", "s.f90:1: E106\n"),
 ];
 
-#[test]
-fn bytes_and_constants_are_refused_where_they_stand(rt: HostRuntime) -> Result<(), Fail> {
-    refuses(&rt, rt.alloc(), &BYTES)
-}
-
 const AMPERSANDS: [(&[u8], &str); 6] = [
     (b"x = 1 &\n", "s.f90:1: E106\n"),
     (b"x = 1 &\n\n! end\n", "s.f90:1: E106\n"),
@@ -67,11 +52,6 @@ const AMPERSANDS: [(&[u8], &str); 6] = [
     (b"x = 1 &\n& ! alone\n+ 2\n", "s.f90:1: E106\n"),
     (b" &\n", "s.f90:1: E106\n"),
 ];
-
-#[test]
-fn an_ampersand_continues_a_statement(rt: HostRuntime) -> Result<(), Fail> {
-    refuses(&rt, rt.alloc(), &AMPERSANDS)
-}
 
 const CONTINUED: [(&str, &str); 11] = [
     (
@@ -120,11 +100,6 @@ const CONTINUED: [(&str, &str); 11] = [
     ),
 ];
 
-#[test]
-fn continued_lines_are_joined(rt: HostRuntime) -> Result<(), Fail> {
-    shows_lines(&rt, rt.alloc(), &CONTINUED)
-}
-
 const ANY_BYTES: [(&[u8], &str); 5] = [
     (
         b"program p\nx = 'a\tb!;c&d\xff' ! \xfe 'open\nend\n",
@@ -143,6 +118,20 @@ const ANY_BYTES: [(&[u8], &str); 5] = [
 ];
 
 #[test]
-fn constants_and_comments_take_any_byte(rt: HostRuntime) -> Result<(), Fail> {
-    shows(&rt, rt.alloc(), &ANY_BYTES)
+fn faults_are_told_at_their_lines(rt: HostRuntime) -> Result<(), Fail> {
+    assert_eq!(rt; first_not_refused(rt.alloc(), &FIRST_FAULTS)?, None);
+    assert_eq!(rt; first_not_refused(rt.alloc(), &DIGITS)?, None);
+    assert_eq!(rt; first_not_refused(rt.alloc(), &BYTES)?, None);
+    assert_eq!(rt; first_not_refused(rt.alloc(), &AMPERSANDS)?, None);
+    Ok(())
+}
+
+#[test]
+fn lines_are_joined_and_constants_take_any_byte(rt: HostRuntime) -> Result<(), Fail> {
+    assert_eq!(rt;
+        first_lines_not_shown(rt.alloc(), STATEMENTS, &CONTINUED)?,
+        None
+    );
+    assert_eq!(rt; first_not_shown(rt.alloc(), &ANY_BYTES)?, None);
+    Ok(())
 }

@@ -1,30 +1,81 @@
 //! A call of the program over objects in memory.
 
-use lf_base::{Memory, SureSink, SureSource, SureStore};
+use lf_base::{MemSink, MemStore, Memory, SureSource};
 use lf_driver::lf_main;
 use std::alloc::{AllocError, Global};
-use std::process::Abort;
-use std::test::Fail;
 
 /// What a call leaves: its status, the texts on `out` and `err`, and the store.
 #[derive(Drop)]
 pub(crate) struct Left {
     pub(crate) status: u8,
-    pub(crate) out: SureSink,
-    pub(crate) err: SureSink,
-    pub(crate) store: SureStore,
+    pub(crate) out: MemSink,
+    pub(crate) err: MemSink,
+    pub(crate) store: MemStore,
 }
+
+impl Left {
+    /// Whether the call ended so, with these texts.
+    pub(crate) fn is(&self, status: u8, out: &[u8], err: &[u8]) -> bool {
+        self.status == status && self.out.bytes() == out && self.err.bytes() == err
+    }
+}
+
+/// The calls of the store and of `out` that fail, by their numbers from 0.
+#[derive(Clone, Copy)]
+pub(crate) struct Failing {
+    pub(crate) store: Option<u64>,
+    pub(crate) out: Option<u64>,
+}
+
+const NO_FAILURE: Failing = Failing {
+    store: None,
+    out: None,
+};
 
 pub(crate) fn failed(_: Memory) -> AllocError {
     AllocError
 }
 
-pub(crate) fn text(alloc: Global, words: &[&str]) -> Result<Vec<String>, AllocError> {
+fn text(alloc: Global, words: &[&str]) -> Result<Vec<String>, AllocError> {
     let mut all = Vec::new(alloc);
     for word in words {
         all.push(String::from_str(alloc, word)?)?;
     }
     Ok(all)
+}
+
+fn file_of(alloc: Global, name: &str, source: &[u8]) -> Result<(String, Vec<u8>), AllocError> {
+    let name = String::from_str(alloc, name)?;
+    Ok((name, Vec::from_slice(alloc, source)?))
+}
+
+fn files_of(alloc: Global, named: &[(&str, &[u8])]) -> Result<Vec<(String, Vec<u8>)>, AllocError> {
+    let mut files = Vec::new(alloc);
+    for (name, source) in named {
+        files.push(file_of(alloc, name, source)?)?;
+    }
+    Ok(files)
+}
+
+fn calls_of(alloc: Global, call: Option<u64>) -> Result<Vec<u64>, AllocError> {
+    let mut calls = Vec::new(alloc);
+    if let Some(call) = call {
+        calls.push(call)?;
+    }
+    Ok(calls)
+}
+
+fn sink_of(alloc: Global, call: Option<u64>) -> Result<MemSink, AllocError> {
+    MemSink::new(alloc, calls_of(alloc, call)?).map_err(failed)
+}
+
+fn store_of(
+    alloc: Global,
+    named: &[(&str, &[u8])],
+    call: Option<u64>,
+) -> Result<MemStore, AllocError> {
+    let files = files_of(alloc, named)?;
+    MemStore::new(alloc, files, calls_of(alloc, call)?).map_err(failed)
 }
 
 /// Calls the program with these words, where the store has one file.
@@ -34,7 +85,7 @@ pub(crate) fn ran(
     name: &str,
     source: &[u8],
 ) -> Result<Left, AllocError> {
-    ran_over(alloc, words, &[(name, source)])
+    ran_failing(alloc, words, &[(name, source)], NO_FAILURE)
 }
 
 /// Calls the program with these words, where the store has these files.
@@ -43,19 +94,21 @@ pub(crate) fn ran_over(
     words: &[&str],
     named: &[(&str, &[u8])],
 ) -> Result<Left, AllocError> {
-    let mut files = Vec::new(alloc);
-    for (name, source) in named {
-        let file = (
-            String::from_str(alloc, name)?,
-            Vec::from_slice(alloc, source)?,
-        );
-        files.push(file)?;
-    }
-    let mut store = SureStore::new(alloc, files).map_err(failed)?;
+    ran_failing(alloc, words, named, NO_FAILURE)
+}
+
+/// The same where calls fail.
+pub(crate) fn ran_failing(
+    alloc: Global,
+    words: &[&str],
+    named: &[(&str, &[u8])],
+    failing: Failing,
+) -> Result<Left, AllocError> {
     let words = text(alloc, words)?;
+    let mut store = store_of(alloc, named, failing.store)?;
+    let mut out = sink_of(alloc, failing.out)?;
+    let mut err = sink_of(alloc, None)?;
     let mut input = SureSource::new(Vec::new(alloc));
-    let mut out = SureSink::new(alloc).map_err(failed)?;
-    let mut err = SureSink::new(alloc).map_err(failed)?;
     let status = lf_main(
         alloc,
         words.as_slice(),
@@ -72,72 +125,76 @@ pub(crate) fn ran_over(
     })
 }
 
-/// Whether `ast s.f90` refuses each source with its line of text on `err`.
-pub(crate) fn refuses(rt: &impl Abort, alloc: Global, cases: &[(&[u8], &str)]) -> Result<(), Fail> {
-    for (source, told) in cases {
+/// The place of the first source that `ast s.f90` does not refuse with its line of text alone, if there is one.
+pub(crate) fn first_not_refused(
+    alloc: Global,
+    cases: &[(&[u8], &str)],
+) -> Result<Option<usize>, AllocError> {
+    for (place, (source, told)) in cases.iter().enumerate() {
         let left = ran(alloc, &["ast", "s.f90"], "s.f90", source)?;
-        assert_eq!(rt; left.err.bytes(), told.as_bytes());
-        assert_eq!(rt; left.status, 1, "at {told}");
-        assert!(rt; left.out.bytes().is_empty(), "at {told}");
+        if !left.is(1, b"", told.as_bytes()) {
+            return Ok(Some(place));
+        }
     }
-    Ok(())
+    Ok(None)
 }
 
-/// Whether `ast s.f90` shows each source as its text.
-pub(crate) fn shows(rt: &impl Abort, alloc: Global, cases: &[(&[u8], &str)]) -> Result<(), Fail> {
-    for (source, tree) in cases {
+/// The place of the first source that `ast s.f90` does not show as its text alone, if there is one.
+pub(crate) fn first_not_shown(
+    alloc: Global,
+    cases: &[(&[u8], &str)],
+) -> Result<Option<usize>, AllocError> {
+    for (place, (source, tree)) in cases.iter().enumerate() {
         let left = ran(alloc, &["ast", "s.f90"], "s.f90", source)?;
-        assert_eq!(rt; left.err.bytes(), b"".as_slice(), "at {tree}");
-        assert_eq!(rt; left.status, 0, "at {tree}");
-        assert_eq!(rt; left.out.bytes(), tree.as_bytes());
+        if !left.is(0, tree.as_bytes(), b"") {
+            return Ok(Some(place));
+        }
     }
-    Ok(())
+    Ok(None)
 }
 
-/// Whether a program with these lines from line 2 on is shown with these statements.
-pub(crate) fn shows_lines(
-    rt: &impl Abort,
+/// A program with these lines from line 2 on.
+fn with_lines(alloc: Global, lines: &str) -> Result<String, AllocError> {
+    format!(in alloc; "program p\n{lines}\nend\n")
+}
+
+/// What stands around the statements, or the declarations, of a program in its text.
+pub(crate) type Around = (&'static str, &'static str);
+
+pub(crate) const STATEMENTS: Around = ("(Program 1 p [] [", "] [])\n");
+
+pub(crate) const DECLARATIONS: Around = ("(Program 1 p [", "] [] [])\n");
+
+/// The same for programs with these lines from line 2 on, which are shown with this text between what stands around it.
+pub(crate) fn first_lines_not_shown(
     alloc: Global,
+    around: Around,
     cases: &[(&str, &str)],
-) -> Result<(), Fail> {
-    for (lines, stmts) in cases {
-        let source = format!(in alloc; "program p\n{lines}\nend\n")?;
-        let tree = format!(in alloc; "(Program 1 p [] [{stmts}] [])\n")?;
+) -> Result<Option<usize>, AllocError> {
+    let (front, behind) = around;
+    for (place, (lines, text)) in cases.iter().enumerate() {
+        let source = with_lines(alloc, lines)?;
+        let tree = format!(in alloc; "{front}{text}{behind}")?;
         let left = ran(alloc, &["ast", "s.f90"], "s.f90", source.as_bytes())?;
-        assert_eq!(rt; left.err.bytes(), b"".as_slice(), "at {lines}");
-        assert_eq!(rt; left.out.bytes(), tree.as_bytes());
+        if !left.is(0, tree.as_bytes(), b"") {
+            return Ok(Some(place));
+        }
     }
-    Ok(())
+    Ok(None)
 }
 
-/// Whether a program with these lines from line 2 on is shown with these declarations.
-pub(crate) fn shows_declarations(
-    rt: &impl Abort,
+/// The same for programs with these lines from line 2 on, which are refused so.
+pub(crate) fn first_lines_not_refused(
     alloc: Global,
     cases: &[(&str, &str)],
-) -> Result<(), Fail> {
-    for (lines, decls) in cases {
-        let source = format!(in alloc; "program p\n{lines}\nend\n")?;
-        let tree = format!(in alloc; "(Program 1 p [{decls}] [] [])\n")?;
-        let left = ran(alloc, &["ast", "s.f90"], "s.f90", source.as_bytes())?;
-        assert_eq!(rt; left.err.bytes(), b"".as_slice(), "at {lines}");
-        assert_eq!(rt; left.out.bytes(), tree.as_bytes());
-    }
-    Ok(())
-}
-
-/// Whether a program with these lines from line 2 on is refused so.
-pub(crate) fn refuses_lines(
-    rt: &impl Abort,
-    alloc: Global,
-    cases: &[(&str, &str)],
-) -> Result<(), Fail> {
-    for (lines, told) in cases {
-        let source = format!(in alloc; "program p\n{lines}\nend\n")?;
+) -> Result<Option<usize>, AllocError> {
+    for (place, (lines, told)) in cases.iter().enumerate() {
+        let source = with_lines(alloc, lines)?;
         let told = format!(in alloc; "s.f90:{told}\n")?;
         let left = ran(alloc, &["ast", "s.f90"], "s.f90", source.as_bytes())?;
-        assert_eq!(rt; left.err.bytes(), told.as_bytes(), "at {lines}");
-        assert!(rt; left.out.bytes().is_empty(), "at {lines}");
+        if !left.is(1, b"", told.as_bytes()) {
+            return Ok(Some(place));
+        }
     }
-    Ok(())
+    Ok(None)
 }

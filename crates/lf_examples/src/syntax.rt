@@ -1,6 +1,5 @@
-use crate::run::{ran, refuses, refuses_lines};
+use crate::run::{first_lines_not_refused, first_not_refused, ran};
 use std::alloc::{AllocError, Global};
-use std::process::Abort;
 use std::test::Fail;
 
 const UNFORMED: [(&str, &str); 22] = [
@@ -28,11 +27,6 @@ const UNFORMED: [(&str, &str); 22] = [
     ("c: x = 1", "2: E201"),
 ];
 
-#[test]
-fn statements_in_no_form_are_told(rt: HostRuntime) -> Result<(), Fail> {
-    refuses_lines(&rt, rt.alloc(), &UNFORMED)
-}
-
 const UNFORMED_PARTS: [(&str, &str); 19] = [
     ("x = 1 +", "2: E201"),
     ("x = 2 ** -1", "2: E201"),
@@ -54,11 +48,6 @@ const UNFORMED_PARTS: [(&str, &str); 19] = [
     ("print '(F5.1)', a", "2: E201"),
     ("integer subroutine s", "2: E201"),
 ];
-
-#[test]
-fn expressions_and_actions_in_no_form_are_told(rt: HostRuntime) -> Result<(), Fail> {
-    refuses_lines(&rt, rt.alloc(), &UNFORMED_PARTS)
-}
 
 const OUT_OF_PLACE: [(&str, &str); 19] = [
     ("x = 1; integer y; x y", "2: E203"),
@@ -85,11 +74,6 @@ const OUT_OF_PLACE: [(&str, &str); 19] = [
     ("subroutine s\nend", "2: E203"),
 ];
 
-#[test]
-fn statements_out_of_place_are_told(rt: HostRuntime) -> Result<(), Fail> {
-    refuses_lines(&rt, rt.alloc(), &OUT_OF_PLACE)
-}
-
 const NAMES_BEHIND_ENDS: [(&str, &str); 9] = [
     ("if (a) then\nend if c", "3: E205"),
     ("c: if (a) then\nend if d", "3: E205"),
@@ -102,11 +86,6 @@ const NAMES_BEHIND_ENDS: [(&str, &str); 9] = [
     ("end program q", "2: E205"),
 ];
 
-#[test]
-fn names_behind_ends_are_compared(rt: HostRuntime) -> Result<(), Fail> {
-    refuses_lines(&rt, rt.alloc(), &NAMES_BEHIND_ENDS)
-}
-
 const OPEN: [(&[u8], &str); 6] = [
     (b"\nprogram p\n\n", "s.f90:2: E204\n"),
     (b"program p\nif (a) then\nx = 1\n", "s.f90:2: E204\n"),
@@ -118,11 +97,6 @@ const OPEN: [(&[u8], &str); 6] = [
     (b"module m\ntype t\ninteger x\n", "s.f90:2: E204\n"),
     (b"program p\nx = 1\ninteger :: y\nend\n", "s.f90:3: E203\n"),
 ];
-
-#[test]
-fn what_is_open_at_the_end_is_told_at_its_first_line(rt: HostRuntime) -> Result<(), Fail> {
-    refuses(&rt, rt.alloc(), &OPEN)
-}
 
 // `if (a) then` so many times round an action behind a condition, with its ends
 fn nested(alloc: Global, depth: usize) -> Result<Vec<u8>, AllocError> {
@@ -166,61 +140,6 @@ fn in_parentheses(
     Ok(source)
 }
 
-fn told(rt: &impl Abort, alloc: Global, source: &[u8], told: &str) -> Result<(), Fail> {
-    let left = ran(alloc, &["ast", "s.f90"], "s.f90", source)?;
-    assert_eq!(rt; left.err.bytes(), told.as_bytes());
-    assert!(rt; left.out.bytes().is_empty() == (left.status == 1));
-    Ok(())
-}
-
-#[test]
-fn constructs_and_expressions_have_a_greatest_depth(rt: HostRuntime) -> Result<(), Fail> {
-    let alloc = rt.alloc();
-    let accepted = nested(alloc, 64)?;
-    told(&rt, alloc, accepted.as_slice(), "")?;
-    let refused = nested(alloc, 65)?;
-    told(&rt, alloc, refused.as_slice(), "s.f90:66: E206\n")?;
-    // a name alone has depth 2
-    let accepted = in_parentheses(alloc, b"x = &\n", 254, b"y", b"")?;
-    told(&rt, alloc, accepted.as_slice(), "")?;
-    let refused = in_parentheses(alloc, b"x = &\n", 255, b"y", b"")?;
-    told(&rt, alloc, refused.as_slice(), "s.f90:2: E206\n")?;
-    // in no form, whatever its depth
-    let refused = in_parentheses(alloc, b"x = &\n", 6000, b"1", b" +")?;
-    told(&rt, alloc, refused.as_slice(), "s.f90:2: E201\n")
-}
-
-const PLACES: [(&[u8], &[u8], &str); 12] = [
-    (b"x = &\n", b"", "s.f90:2: E206\n"),
-    (b"integer :: a(&\n", b")", "s.f90:2: E206\n"),
-    (b"integer :: a(0:&\n", b")", "s.f90:2: E206\n"),
-    (b"character(len=&\n", b") :: c", "s.f90:2: E206\n"),
-    (b"integer :: a = &\n", b"", "s.f90:2: E206\n"),
-    (b"if (&\n", b") x = 1", "s.f90:2: E206\n"),
-    (b"do i = 1, &\n", b"\nend do", "s.f90:2: E206\n"),
-    (b"select case (&\n", b")\nend select", "s.f90:2: E206\n"),
-    (
-        b"select case (a)\ncase (&\n",
-        b":)\nend select",
-        "s.f90:3: E206\n",
-    ),
-    (b"call s(&\n", b")", "s.f90:2: E206\n"),
-    (b"print *, 1, &\n", b"", "s.f90:2: E206\n"),
-    (b"stop &\n", b"", "s.f90:2: E206\n"),
-];
-
-#[test]
-fn each_expression_has_the_greatest_depth(rt: HostRuntime) -> Result<(), Fail> {
-    let alloc = rt.alloc();
-    for place in &PLACES {
-        let accepted = in_parentheses(alloc, place.0, 255, b"1", place.1)?;
-        told(&rt, alloc, accepted.as_slice(), "")?;
-        let refused = in_parentheses(alloc, place.0, 256, b"1", place.1)?;
-        told(&rt, alloc, refused.as_slice(), place.2)?;
-    }
-    Ok(())
-}
-
 // a statement of so many continuations, with a comment and a blank line in front of each
 fn continue_it(source: &mut Vec<u8>, continuations: usize) -> Result<(), AllocError> {
     source.extend_from_slice(b"x = 1 &\n")?;
@@ -250,19 +169,114 @@ fn commented(alloc: Global, bytes: usize, end: &[u8]) -> Result<Vec<u8>, AllocEr
     Ok(source)
 }
 
-#[test]
-fn lines_and_statements_have_a_greatest_length(rt: HostRuntime) -> Result<(), Fail> {
-    let alloc = rt.alloc();
-    let accepted = commented(alloc, 132, b"\r")?;
-    told(&rt, alloc, accepted.as_slice(), "")?;
-    let refused = commented(alloc, 133, b"")?;
-    told(&rt, alloc, refused.as_slice(), "s.f90:2: E103\n")?;
+/// A source that is made for a limit.
+enum Made {
+    /// Constructs so deep in each other.
+    Nested(usize),
+    /// So many parentheses around an operand, with what stands behind them.
+    Parentheses(usize, &'static [u8], &'static [u8]),
+    /// A comment of so many bytes, with what ends its line.
+    Commented(usize, &'static [u8]),
+    /// Two statements of so many continuations.
+    Continued(usize, usize),
+}
+
+fn text_of(alloc: Global, made: &Made) -> Result<Vec<u8>, AllocError> {
+    match made {
+        Made::Nested(depth) => nested(alloc, *depth),
+        Made::Parentheses(depth, inner, behind) => in_parentheses(
+            alloc, b"x = &\n", *depth, inner, behind,
+        ),
+        Made::Commented(bytes, end) => commented(alloc, *bytes, end),
+        Made::Continued(first, second) => continued(alloc, *first, *second),
+    }
+}
+
+const LIMITS: [(Made, &str); 10] = [
+    (Made::Nested(64), ""),
+    (Made::Nested(65), "s.f90:66: E206\n"),
+    // a name alone has depth 2
+    (Made::Parentheses(254, b"y", b""), ""),
+    (Made::Parentheses(255, b"y", b""), "s.f90:2: E206\n"),
+    // in no form, whatever its depth
+    (Made::Parentheses(6000, b"1", b" +"), "s.f90:2: E201\n"),
+    (Made::Commented(132, b"\r"), ""),
+    (Made::Commented(133, b""), "s.f90:2: E103\n"),
     // each statement counts its own continuations
-    let accepted = continued(alloc, 255, 255)?;
-    told(&rt, alloc, accepted.as_slice(), "")?;
-    let refused = continued(alloc, 256, 255)?;
-    told(&rt, alloc, refused.as_slice(), "s.f90:2: E104\n")?;
+    (Made::Continued(255, 255), ""),
+    (Made::Continued(256, 255), "s.f90:2: E104\n"),
     // the first has 3 lines a continuation, but one for its last, and one line more
-    let refused = continued(alloc, 255, 256)?;
-    told(&rt, alloc, refused.as_slice(), "s.f90:766: E104\n")
+    (Made::Continued(255, 256), "s.f90:766: E104\n"),
+];
+
+/// Whether `ast s.f90` tells this of a source on `err`, and shows its tree where that is nothing.
+fn is_told(alloc: Global, source: &[u8], told: &str) -> Result<bool, AllocError> {
+    let left = ran(alloc, &["ast", "s.f90"], "s.f90", source)?;
+    Ok(left.err.bytes() == told.as_bytes() && left.out.bytes().is_empty() == (left.status == 1))
+}
+
+/// The place of the first limit that is not told so, if there is one.
+fn first_limit_not_told(alloc: Global) -> Result<Option<usize>, AllocError> {
+    for (place, (made, told)) in LIMITS.iter().enumerate() {
+        let source = text_of(alloc, made)?;
+        if !is_told(alloc, source.as_slice(), told)? {
+            return Ok(Some(place));
+        }
+    }
+    Ok(None)
+}
+
+const PLACES: [(&[u8], &[u8], &str); 12] = [
+    (b"x = &\n", b"", "s.f90:2: E206\n"),
+    (b"integer :: a(&\n", b")", "s.f90:2: E206\n"),
+    (b"integer :: a(0:&\n", b")", "s.f90:2: E206\n"),
+    (b"character(len=&\n", b") :: c", "s.f90:2: E206\n"),
+    (b"integer :: a = &\n", b"", "s.f90:2: E206\n"),
+    (b"if (&\n", b") x = 1", "s.f90:2: E206\n"),
+    (b"do i = 1, &\n", b"\nend do", "s.f90:2: E206\n"),
+    (b"select case (&\n", b")\nend select", "s.f90:2: E206\n"),
+    (
+        b"select case (a)\ncase (&\n",
+        b":)\nend select",
+        "s.f90:3: E206\n",
+    ),
+    (b"call s(&\n", b")", "s.f90:2: E206\n"),
+    (b"print *, 1, &\n", b"", "s.f90:2: E206\n"),
+    (b"stop &\n", b"", "s.f90:2: E206\n"),
+];
+
+/// Whether an expression in this place may be 256 deep, and no deeper.
+fn has_greatest_depth(alloc: Global, place: &(&[u8], &[u8], &str)) -> Result<bool, AllocError> {
+    let accepted = in_parentheses(alloc, place.0, 255, b"1", place.1)?;
+    let refused = in_parentheses(alloc, place.0, 256, b"1", place.1)?;
+    Ok(is_told(alloc, accepted.as_slice(), "")? && is_told(alloc, refused.as_slice(), place.2)?)
+}
+
+fn first_place_not_told(alloc: Global) -> Result<Option<usize>, AllocError> {
+    for (at, place) in PLACES.iter().enumerate() {
+        if !has_greatest_depth(alloc, place)? {
+            return Ok(Some(at));
+        }
+    }
+    Ok(None)
+}
+
+#[test]
+fn statements_in_no_form_or_place_are_told(rt: HostRuntime) -> Result<(), Fail> {
+    assert_eq!(rt; first_lines_not_refused(rt.alloc(), &UNFORMED)?, None);
+    assert_eq!(rt; first_lines_not_refused(rt.alloc(), &UNFORMED_PARTS)?, None);
+    assert_eq!(rt; first_lines_not_refused(rt.alloc(), &OUT_OF_PLACE)?, None);
+    assert_eq!(rt;
+        first_lines_not_refused(rt.alloc(), &NAMES_BEHIND_ENDS)?,
+        None
+    );
+    assert_eq!(rt; first_not_refused(rt.alloc(), &OPEN)?, None);
+    Ok(())
+}
+
+#[test]
+fn limits_are_told(rt: HostRuntime) -> Result<(), Fail> {
+    assert_eq!(rt; first_limit_not_told(rt.alloc())?, None);
+    assert_eq!(rt; first_place_not_told(rt.alloc())?, None);
+    Ok(())
 }

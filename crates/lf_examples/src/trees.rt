@@ -1,4 +1,4 @@
-use crate::run::{shows, shows_declarations, shows_lines};
+use crate::run::{DECLARATIONS, STATEMENTS, first_lines_not_shown, first_not_shown};
 use std::test::Fail;
 
 const PRECEDENCE: [(&str, &str); 12] = [
@@ -52,11 +52,6 @@ const PRECEDENCE: [(&str, &str); 12] = [
     ),
 ];
 
-#[test]
-fn operators_bind_by_their_precedence(rt: HostRuntime) -> Result<(), Fail> {
-    shows_lines(&rt, rt.alloc(), &PRECEDENCE)
-}
-
 const PRIMARIES: [(&str, &str); 6] = [
     (
         "print *, 007_8, ((1))",
@@ -83,11 +78,6 @@ const PRIMARIES: [(&str, &str); 6] = [
         "(Print 2 0 0 [(Loop i (Int \"1\" 0) (Int \"9\" 0) (Int \"2\" 0) [(Int \"1\" 0) (Loop j (Int \"1\" 0) (Int \"2\" 0) - [(Ref [(Part j)])])])])",
     ),
 ];
-
-#[test]
-fn primaries_are_literals_groups_and_designators(rt: HostRuntime) -> Result<(), Fail> {
-    shows_lines(&rt, rt.alloc(), &PRIMARIES)
-}
 
 const ACTIONS: [(&str, &str); 13] = [
     (
@@ -141,11 +131,6 @@ const ACTIONS: [(&str, &str); 13] = [
     ),
 ];
 
-#[test]
-fn actions_are_shown(rt: HostRuntime) -> Result<(), Fail> {
-    shows_lines(&rt, rt.alloc(), &ACTIONS)
-}
-
 const CONSTRUCTS: [(&str, &str); 8] = [
     (
         "c: if (a) then\nx = 1\nelse if (b) then c\nelseif (d) then\nelse\nend if c",
@@ -178,12 +163,7 @@ const CONSTRUCTS: [(&str, &str); 8] = [
     ),
 ];
 
-#[test]
-fn constructs_hold_their_blocks(rt: HostRuntime) -> Result<(), Fail> {
-    shows_lines(&rt, rt.alloc(), &CONSTRUCTS)
-}
-
-const DECLARATIONS: [(&str, &str); 12] = [
+const SPECIFICATIONS: [(&str, &str); 12] = [
     (
         "use m; use :: m; use m, only:",
         "(Use 2 m 0 []) (Use 2 m 0 []) (Use 2 m 1 [])",
@@ -234,11 +214,6 @@ const DECLARATIONS: [(&str, &str); 12] = [
     ),
 ];
 
-#[test]
-fn declarations_are_shown(rt: HostRuntime) -> Result<(), Fail> {
-    shows_declarations(&rt, rt.alloc(), &DECLARATIONS)
-}
-
 const UNITS: [(&[u8], &str); 5] = [
     (
         b"program p\nprint *, 2+3*4\nend program p\n",
@@ -263,6 +238,32 @@ const UNITS: [(&[u8], &str); 5] = [
 ];
 
 #[test]
-fn units_are_shown_one_a_line(rt: HostRuntime) -> Result<(), Fail> {
-    shows(&rt, rt.alloc(), &UNITS)
+fn statements_are_shown(rt: HostRuntime) -> Result<(), Fail> {
+    assert_eq!(rt;
+        first_lines_not_shown(rt.alloc(), STATEMENTS, &PRECEDENCE)?,
+        None
+    );
+    assert_eq!(rt;
+        first_lines_not_shown(rt.alloc(), STATEMENTS, &PRIMARIES)?,
+        None
+    );
+    assert_eq!(rt;
+        first_lines_not_shown(rt.alloc(), STATEMENTS, &ACTIONS)?,
+        None
+    );
+    assert_eq!(rt;
+        first_lines_not_shown(rt.alloc(), STATEMENTS, &CONSTRUCTS)?,
+        None
+    );
+    Ok(())
+}
+
+#[test]
+fn declarations_and_units_are_shown(rt: HostRuntime) -> Result<(), Fail> {
+    assert_eq!(rt;
+        first_lines_not_shown(rt.alloc(), DECLARATIONS, &SPECIFICATIONS)?,
+        None
+    );
+    assert_eq!(rt; first_not_shown(rt.alloc(), &UNITS)?, None);
+    Ok(())
 }

@@ -1,6 +1,6 @@
+use crate::there::there;
 use lf_base::{Name, SymId, TableId};
 use std::alloc::Global;
-use std::process::Abort;
 use std::test::Fail;
 use symtab_arena::{Arena, ArenaFault};
 
@@ -10,232 +10,214 @@ const PROGRAM: TableId = TableId(1);
 
 const INNER: TableId = TableId(2);
 
+type Declared = Result<SymId, ArenaFault>;
+
+type Owner = Result<(SymId, TableId), ArenaFault>;
+
 fn declare(
-    rt: &impl Abort,
     alloc: Global,
     arena: &mut Arena<u32>,
     table: TableId,
     text: &[u8],
     what: u32,
-) -> Result<Result<SymId, ArenaFault>, Fail> {
-    assert!(rt; arena.has_table(table));
+) -> Result<Declared, Fail> {
+    there(arena.has_table(table))?;
     let name = Name::new(alloc, text)?;
     Ok(arena.declare(table, &name, what))
 }
 
 fn declare_owner(
-    rt: &impl Abort,
     alloc: Global,
     arena: &mut Arena<u32>,
     table: TableId,
     text: &[u8],
     what: u32,
-) -> Result<Result<(SymId, TableId), ArenaFault>, Fail> {
-    assert!(rt; arena.has_table(table));
+) -> Result<Owner, Fail> {
+    there(arena.has_table(table))?;
     let name = Name::new(alloc, text)?;
     Ok(arena.declare_owner(table, &name, what))
 }
 
-/// A program `p` with the variables `x` and `y` and the procedure `s`, which has an `x` of its own.
-fn sample(rt: &impl Abort, alloc: Global) -> Result<Arena<u32>, Fail> {
-    let mut arena = Arena::new(alloc)?;
-    assert_eq!(rt;
-        declare_owner(rt, alloc, &mut arena, ROOT, b"p", 10)?,
-        Ok((SymId(0), PROGRAM))
-    );
-    assert_eq!(rt;
-        declare(rt, alloc, &mut arena, PROGRAM, b"x", 11)?,
-        Ok(SymId(1))
-    );
-    assert_eq!(rt;
-        declare_owner(rt, alloc, &mut arena, PROGRAM, b"s", 12)?,
-        Ok((SymId(2), INNER))
-    );
-    assert_eq!(rt;
-        declare(rt, alloc, &mut arena, INNER, b"x", 13)?,
-        Ok(SymId(3))
-    );
-    assert_eq!(rt;
-        declare(rt, alloc, &mut arena, PROGRAM, b"y", 14)?,
-        Ok(SymId(4))
-    );
-    Ok(arena)
+/// Declares the program `p` with the variables `x` and `y` and the procedure `s`, which has an `x` of its own. Tells whether
+/// they have their numbers.
+fn has_sample(alloc: Global, arena: &mut Arena<u32>) -> Result<bool, Fail> {
+    let p = declare_owner(alloc, arena, ROOT, b"p", 10)?;
+    let x = declare(alloc, arena, PROGRAM, b"x", 11)?;
+    let s = declare_owner(alloc, arena, PROGRAM, b"s", 12)?;
+    let own = declare(alloc, arena, INNER, b"x", 13)?;
+    let y = declare(alloc, arena, PROGRAM, b"y", 14)?;
+    Ok(
+        p == Ok((SymId(0), PROGRAM))
+            && x == Ok(SymId(1))
+            && s == Ok((SymId(2), INNER))
+            && own == Ok(SymId(3))
+            && y == Ok(SymId(4)),
+    )
 }
 
-#[test]
-fn names_are_looked_up_along_the_parents(rt: HostRuntime) -> Result<(), Fail> {
-    let alloc = rt.alloc();
-    let arena = sample(&rt, alloc)?;
-    let cases: [(TableId, &[u8], Option<SymId>, Option<SymId>); 9] = [
-        (ROOT, b"p", Some(SymId(0)), Some(SymId(0))),
-        (ROOT, b"x", None, None),
-        (PROGRAM, b"p", None, Some(SymId(0))),
-        (PROGRAM, b"x", Some(SymId(1)), Some(SymId(1))),
-        (PROGRAM, b"s", Some(SymId(2)), Some(SymId(2))),
-        (INNER, b"x", Some(SymId(3)), Some(SymId(3))),
-        (INNER, b"y", None, Some(SymId(4))),
-        (INNER, b"p", None, Some(SymId(0))),
-        (INNER, b"z", None, None),
-    ];
-    for (table, text, here, up) in cases {
-        let name = Name::new(alloc, text)?;
-        assert_eq!(rt; arena.lookup_here(table, &name), here, "at {text:?}");
-        assert_eq!(rt; arena.lookup_up(table, &name), up, "at {text:?}");
+/// Declares `a`, `b` and `c` in the root.
+fn declare_three(alloc: Global, arena: &mut Arena<u32>) -> Result<(), Fail> {
+    for text in [b"a", b"b", b"c"] {
+        let _ = declare(alloc, arena, ROOT, text, 9)?;
     }
     Ok(())
 }
 
-/// Checks a table's parent and owner, and its first, third and fourth symbol.
-fn check_table(
-    rt: &impl Abort,
+/// Tables and names with the symbols that are found there, and along the parents.
+const LOOKUPS: [(TableId, &[u8], Option<SymId>, Option<SymId>); 9] = [
+    (ROOT, b"p", Some(SymId(0)), Some(SymId(0))),
+    (ROOT, b"x", None, None),
+    (PROGRAM, b"p", None, Some(SymId(0))),
+    (PROGRAM, b"x", Some(SymId(1)), Some(SymId(1))),
+    (PROGRAM, b"s", Some(SymId(2)), Some(SymId(2))),
+    (INNER, b"x", Some(SymId(3)), Some(SymId(3))),
+    (INNER, b"y", None, Some(SymId(4))),
+    (INNER, b"p", None, Some(SymId(0))),
+    (INNER, b"z", None, None),
+];
+
+/// The place of the first name that is not found so, if there is one.
+fn first_not_found(alloc: Global, arena: &Arena<u32>) -> Result<Option<usize>, Fail> {
+    for (place, (table, text, here, up)) in LOOKUPS.iter().enumerate() {
+        let name = Name::new(alloc, text)?;
+        if arena.lookup_here(*table, &name) != *here || arena.lookup_up(*table, &name) != *up {
+            return Ok(Some(place));
+        }
+    }
+    Ok(None)
+}
+
+/// Whether these are a table's parent and owner, and its first, third and fourth symbol.
+fn table_is(
     arena: &Arena<u32>,
     table: TableId,
     links: (Option<TableId>, Option<SymId>),
     symbols: (Option<SymId>, Option<SymId>, Option<SymId>),
-) {
-    assert_eq!(rt; (arena.parent(table), arena.owner(table)), links);
-    assert_eq!(rt;
-        (arena.at(table, 0), arena.at(table, 2), arena.at(table, 3)),
-        symbols
-    );
+) -> bool {
+    (arena.parent(table), arena.owner(table)) == links
+        && (arena.at(table, 0), arena.at(table, 2), arena.at(table, 3)) == symbols
 }
 
-/// Checks a live symbol's table and the table that it owns, its name and what it stands for.
-fn check_symbol(
-    rt: &impl Abort,
+/// Whether a symbol is live in its table, with the table that it owns, its name and what it stands for.
+fn symbol_is(
     arena: &Arena<u32>,
     symbol: SymId,
     links: (TableId, Option<TableId>),
     text: &[u8],
     what: u32,
-) {
-    assert!(rt; arena.live(symbol));
-    assert_eq!(rt; (arena.table_of(symbol), arena.owned(symbol)), links);
-    assert_eq!(rt; arena.name_of(symbol).bytes(), text);
-    assert_eq!(rt; *arena.what(symbol), what);
+) -> bool {
+    arena.live(symbol)
+        && (arena.table_of(symbol), arena.owned(symbol)) == links
+        && arena.name_of(symbol).bytes() == text
+        && *arena.what(symbol) == what
 }
 
-/// Checks how many symbols are live, and the numbers that come next.
-fn check_counts(rt: &impl Abort, arena: &Arena<u32>, live: usize, given: usize, tables: u32) {
-    assert_eq!(rt; (arena.len(), arena.given()), (live, given));
-    assert_eq!(rt; arena.next_table(), TableId(tables));
+/// Whether so many symbols are live, and these numbers come next.
+fn counts_are(arena: &Arena<u32>, live: usize, given: usize, tables: u32) -> bool {
+    arena.len() == live && arena.given() == given && arena.next_table() == TableId(tables)
+}
+
+fn tables_are_linked(arena: &Arena<u32>) -> bool {
+    let p = Some(SymId(0));
+    let x = Some(SymId(1));
+    table_is(arena, ROOT, (None, None), (p, None, None))
+        && table_is(arena, PROGRAM, (Some(ROOT), p), (x, Some(SymId(4)), None))
+        && table_is(
+            arena,
+            INNER,
+            (Some(PROGRAM), Some(SymId(2))),
+            (Some(SymId(3)), None, None),
+        )
+        && !arena.has_table(TableId(3))
+}
+
+fn symbols_are_linked(arena: &Arena<u32>) -> bool {
+    symbol_is(arena, SymId(0), (ROOT, Some(PROGRAM)), b"p", 10)
+        && symbol_is(arena, SymId(1), (PROGRAM, None), b"x", 11)
+        && symbol_is(arena, SymId(2), (PROGRAM, Some(INNER)), b"s", 12)
+        && symbol_is(arena, SymId(3), (INNER, None), b"x", 13)
+        && symbol_is(arena, SymId(4), (PROGRAM, None), b"y", 14)
+        && !arena.live(SymId(5))
+}
+
+/// Whether a second declaration is refused and changes nothing.
+fn refuses_a_second(alloc: Global, arena: &mut Arena<u32>) -> Result<bool, Fail> {
+    let symbol = declare(alloc, arena, PROGRAM, b"x", 99)?;
+    let owner = declare_owner(alloc, arena, INNER, b"x", 99)?;
+    let same = counts_are(arena, 5, 5, 3);
+    let other = declare(alloc, arena, ROOT, b"x", 15)?;
+    Ok(
+        symbol == Err(ArenaFault::Twice(SymId(1)))
+            && owner == Err(ArenaFault::Twice(SymId(3)))
+            && same
+            && other == Ok(SymId(5)),
+    )
 }
 
 #[test]
 fn tables_and_symbols_name_one_another(rt: HostRuntime) -> Result<(), Fail> {
-    let arena = sample(&rt, rt.alloc())?;
-    let first = Some(SymId(1));
-    check_table(
-        &rt,
-        &arena,
-        ROOT,
-        (None, None),
-        (Some(SymId(0)), None, None),
-    );
-    check_table(
-        &rt,
-        &arena,
-        PROGRAM,
-        (Some(ROOT), Some(SymId(0))),
-        (first, Some(SymId(4)), None),
-    );
-    check_table(
-        &rt,
-        &arena,
-        INNER,
-        (Some(PROGRAM), Some(SymId(2))),
-        (Some(SymId(3)), None, None),
-    );
-    check_symbol(&rt, &arena, SymId(0), (ROOT, Some(PROGRAM)), b"p", 10);
-    check_symbol(&rt, &arena, SymId(1), (PROGRAM, None), b"x", 11);
-    check_symbol(&rt, &arena, SymId(2), (PROGRAM, Some(INNER)), b"s", 12);
-    check_symbol(&rt, &arena, SymId(3), (INNER, None), b"x", 13);
-    check_symbol(&rt, &arena, SymId(4), (PROGRAM, None), b"y", 14);
-    check_counts(&rt, &arena, 5, 5, 3);
-    assert!(rt; !arena.live(SymId(5)));
-    assert!(rt; !arena.has_table(TableId(3)));
-    Ok(())
-}
-
-#[test]
-fn a_second_declaration_changes_nothing(rt: HostRuntime) -> Result<(), Fail> {
-    let alloc = rt.alloc();
-    let mut arena = sample(&rt, alloc)?;
-    assert_eq!(rt;
-        declare(&rt, alloc, &mut arena, PROGRAM, b"x", 99)?,
-        Err(ArenaFault::Twice(SymId(1)))
-    );
-    assert_eq!(rt;
-        declare_owner(&rt, alloc, &mut arena, INNER, b"x", 99)?,
-        Err(ArenaFault::Twice(SymId(3)))
-    );
-    assert_eq!(rt; arena.len(), 5);
-    assert_eq!(rt; arena.next_table(), TableId(3));
-    assert_eq!(rt;
-        declare(&rt, alloc, &mut arena, ROOT, b"x", 15)?,
-        Ok(SymId(5))
-    );
+    let mut arena = Arena::new(rt.alloc())?;
+    assert!(rt; has_sample(rt.alloc(), &mut arena)?);
+    assert_eq!(rt; first_not_found(rt.alloc(), &arena)?, None);
+    assert!(rt; tables_are_linked(&arena) && symbols_are_linked(&arena));
+    assert!(rt; counts_are(&arena, 5, 5, 3));
+    assert!(rt; refuses_a_second(rt.alloc(), &mut arena)?);
     Ok(())
 }
 
 /// Declares a name before the symbol at a place of the root.
 fn declare_before(
-    rt: &impl Abort,
     arena: &mut Arena<u32>,
     place: usize,
     name: &Name,
     what: u32,
-) -> Result<SymId, ArenaFault> {
-    assert!(rt; arena.has_table(ROOT));
-    assert!(rt; arena.at(ROOT, place).is_some());
-    arena.declare_at(ROOT, place, name, what)
+) -> Result<Declared, Fail> {
+    there(arena.has_table(ROOT))?;
+    there(arena.at(ROOT, place).is_some())?;
+    Ok(arena.declare_at(ROOT, place, name, what))
 }
 
 /// Declares an owner before the symbol at a place of the root.
 fn declare_owner_before(
-    rt: &impl Abort,
     arena: &mut Arena<u32>,
     place: usize,
     name: &Name,
     what: u32,
-) -> Result<(SymId, TableId), ArenaFault> {
-    assert!(rt; arena.has_table(ROOT));
-    assert!(rt; arena.at(ROOT, place).is_some());
-    arena.declare_owner_at(ROOT, place, name, what)
+) -> Result<Owner, Fail> {
+    there(arena.has_table(ROOT))?;
+    there(arena.at(ROOT, place).is_some())?;
+    Ok(arena.declare_owner_at(ROOT, place, name, what))
 }
 
-/// Checks the symbols of the root in their order.
-fn check_order(rt: &impl Abort, arena: &Arena<u32>, numbers: &[u32]) {
+/// Whether these are the symbols of the root in their order.
+fn order_is(arena: &Arena<u32>, numbers: &[u32]) -> bool {
     for (place, number) in numbers.iter().enumerate() {
-        assert_eq!(rt; arena.at(ROOT, place), Some(SymId(*number)), "at {place}");
+        if arena.at(ROOT, place) != Some(SymId(*number)) {
+            return false;
+        }
     }
-    assert_eq!(rt; arena.at(ROOT, numbers.len()), None);
+    arena.at(ROOT, numbers.len()).is_none()
 }
 
-#[test]
-fn places_move_up_and_down(rt: HostRuntime) -> Result<(), Fail> {
-    let alloc = rt.alloc();
-    let mut arena: Arena<u32> = Arena::new(alloc)?;
-    for text in [b"a", b"b", b"c"] {
-        let _ = declare(&rt, alloc, &mut arena, ROOT, text, 0)?;
-    }
+fn places_move_up(alloc: Global, arena: &mut Arena<u32>) -> Result<bool, Fail> {
+    declare_three(alloc, arena)?;
     let first = Name::new(alloc, b"first")?;
-    assert_eq!(rt; declare_before(&rt, &mut arena, 0, &first, 1), Ok(SymId(3)));
+    let before = declare_before(arena, 0, &first, 1)?;
     let middle = Name::new(alloc, b"middle")?;
-    assert_eq!(rt;
-        declare_owner_before(&rt, &mut arena, 2, &middle, 2),
-        Ok((SymId(4), PROGRAM))
-    );
-    check_order(&rt, &arena, &[3, 0, 4, 1, 2]);
-    assert_eq!(rt; arena.parent(PROGRAM), Some(ROOT));
-    Ok(())
+    let between = declare_owner_before(arena, 2, &middle, 2)?;
+    Ok(
+        before == Ok(SymId(3))
+            && between == Ok((SymId(4), PROGRAM))
+            && order_is(arena, &[3, 0, 4, 1, 2])
+            && arena.parent(PROGRAM) == Some(ROOT),
+    )
 }
 
 /// Names with what they stand for.
 fn listed(alloc: Global, texts: &[&[u8]]) -> Result<Vec<(Name, u32)>, Fail> {
     let mut names = Vec::new(alloc);
     for text in texts {
-        let name = Name::new(alloc, *text)?;
+        let name = Name::new(alloc, text)?;
         names.push((name, 7))?;
     }
     Ok(names)
@@ -243,34 +225,36 @@ fn listed(alloc: Global, texts: &[&[u8]]) -> Result<Vec<(Name, u32)>, Fail> {
 
 /// Declares names from the place of a symbol of the root on.
 fn declare_all_before(
-    rt: &impl Abort,
     arena: &mut Arena<u32>,
     place: usize,
     names: Vec<(Name, u32)>,
-) -> Result<(), ArenaFault> {
-    assert!(rt; arena.has_table(ROOT));
-    assert!(rt; arena.at(ROOT, place).is_some());
-    arena.declare_all_at(ROOT, place, names)
+) -> Result<Result<(), ArenaFault>, Fail> {
+    there(arena.has_table(ROOT))?;
+    there(arena.at(ROOT, place).is_some())?;
+    Ok(arena.declare_all_at(ROOT, place, names))
+}
+
+fn names_go_in_at_once(alloc: Global, arena: &mut Arena<u32>) -> Result<bool, Fail> {
+    declare_three(alloc, arena)?;
+    let names = listed(alloc, &[b"x", b"y", b"z"])?;
+    let done = declare_all_before(arena, 1, names)?;
+    let is_ordered = order_is(arena, &[0, 3, 4, 5, 1, 2]);
+    let names = listed(alloc, &[b"u", b"b", b"v"])?;
+    let refused = declare_all_before(arena, 0, names)?;
+    Ok(
+        done == Ok(())
+            && is_ordered
+            && refused == Err(ArenaFault::Twice(SymId(1)))
+            && order_is(arena, &[6, 0, 3, 4, 5, 1, 2]),
+    )
 }
 
 #[test]
-fn names_are_declared_at_once(rt: HostRuntime) -> Result<(), Fail> {
-    let alloc = rt.alloc();
-    let mut arena: Arena<u32> = Arena::new(alloc)?;
-    for text in [b"a", b"b", b"c"] {
-        let _ = declare(&rt, alloc, &mut arena, ROOT, text, 0)?;
-    }
-    let texts: [&[u8]; 3] = [b"x", b"y", b"z"];
-    let names = listed(alloc, &texts)?;
-    assert_eq!(rt; declare_all_before(&rt, &mut arena, 1, names), Ok(()));
-    check_order(&rt, &arena, &[0, 3, 4, 5, 1, 2]);
-    let texts: [&[u8]; 3] = [b"u", b"b", b"v"];
-    let names = listed(alloc, &texts)?;
-    assert_eq!(rt;
-        declare_all_before(&rt, &mut arena, 0, names),
-        Err(ArenaFault::Twice(SymId(1)))
-    );
-    check_order(&rt, &arena, &[6, 0, 3, 4, 5, 1, 2]);
+fn names_are_declared_at_places(rt: HostRuntime) -> Result<(), Fail> {
+    let mut arena = Arena::new(rt.alloc())?;
+    assert!(rt; places_move_up(rt.alloc(), &mut arena)?);
+    let mut arena = Arena::new(rt.alloc())?;
+    assert!(rt; names_go_in_at_once(rt.alloc(), &mut arena)?);
     Ok(())
 }
 
@@ -287,137 +271,130 @@ fn declare_and_remove(
     Ok(arena.remove_owned(owner))
 }
 
+fn numbers_are_not_given_again(alloc: Global, arena: &mut Arena<u32>) -> Result<bool, Fail> {
+    let scope = Name::new(alloc, b"s")?;
+    let inner = Name::new(alloc, b"x")?;
+    let removed = declare_and_remove(arena, &scope, &inner);
+    let is_empty = counts_are(arena, 0, 2, 2) && order_is(arena, &[]);
+    let is_gone = !arena.live(SymId(0)) && !arena.live(SymId(1)) && !arena.has_table(PROGRAM);
+    let next = declare(alloc, arena, ROOT, b"s", 9)?;
+    Ok(removed == Ok(7) && is_empty && is_gone && next == Ok(SymId(2)))
+}
+
 /// Takes out a live symbol that owns no table, once it stands for something else.
 fn replace_and_remove(
-    rt: &impl Abort,
     arena: &mut Arena<u32>,
     symbol: SymId,
     with: u32,
-) -> (u32, u32) {
-    assert!(rt; arena.live(symbol));
+) -> Result<(u32, u32), Fail> {
+    there(arena.live(symbol))?;
     let old = arena.replace_what(symbol, with);
-    assert!(rt; arena.live(symbol));
-    assert!(rt; arena.owned(symbol).is_none());
-    (old, arena.remove(symbol))
+    there(arena.live(symbol))?;
+    there(arena.owned(symbol).is_none())?;
+    Ok((old, arena.remove(symbol)))
 }
 
-#[test]
-fn removed_numbers_are_not_given_again(rt: HostRuntime) -> Result<(), Fail> {
-    let alloc = rt.alloc();
-    let mut arena: Arena<u32> = Arena::new(alloc)?;
-    let scope = Name::new(alloc, b"s")?;
-    let inner = Name::new(alloc, b"x")?;
-    assert_eq!(rt; declare_and_remove(&mut arena, &scope, &inner), Ok(7));
-    check_counts(&rt, &arena, 0, 2, 2);
-    assert!(rt; !arena.live(SymId(0)));
-    assert!(rt; !arena.live(SymId(1)));
-    assert!(rt; !arena.has_table(PROGRAM));
-    check_order(&rt, &arena, &[]);
-    assert_eq!(rt;
-        declare(&rt, alloc, &mut arena, ROOT, b"s", 9)?,
-        Ok(SymId(2))
-    );
-    Ok(())
-}
-
-#[test]
-fn a_removal_closes_the_order(rt: HostRuntime) -> Result<(), Fail> {
-    let alloc = rt.alloc();
-    let mut arena: Arena<u32> = Arena::new(alloc)?;
-    for text in [b"a", b"b", b"c"] {
-        let _ = declare(&rt, alloc, &mut arena, ROOT, text, 9)?;
-    }
-    assert_eq!(rt; replace_and_remove(&rt, &mut arena, SymId(1), 20), (9, 20));
-    check_order(&rt, &arena, &[0, 2]);
-    check_counts(&rt, &arena, 2, 3, 1);
-    Ok(())
+fn removal_closes_the_order(alloc: Global, arena: &mut Arena<u32>) -> Result<bool, Fail> {
+    declare_three(alloc, arena)?;
+    let taken = replace_and_remove(arena, SymId(1), 20)?;
+    Ok(taken == (9, 20) && order_is(arena, &[0, 2]) && counts_are(arena, 2, 3, 1))
 }
 
 /// Takes out two symbols of the root at once, each with the table that it owns.
-fn remove_both(rt: &impl Abort, arena: &mut Arena<u32>, first: SymId, second: SymId) {
-    assert!(rt; arena.has_table(ROOT));
-    assert!(rt; arena.live(first) && arena.live(second));
-    assert!(rt; arena.table_of(first) == ROOT && arena.table_of(second) == ROOT);
-    assert!(rt; arena.owns_no_owner(first) && arena.owns_no_owner(second));
-    arena.remove_all_owned(ROOT, &[first, second])
-}
-
-#[test]
-fn owners_are_taken_out_at_once(rt: HostRuntime) -> Result<(), Fail> {
-    let alloc = rt.alloc();
-    let mut arena = sample(&rt, alloc)?;
-    assert!(rt; !arena.owns_no_owner(SymId(0)));
-    assert!(rt; arena.owns_no_owner(SymId(2)));
-    for text in [b"q", b"r"] {
-        let _ = declare_owner(&rt, alloc, &mut arena, ROOT, text, 0)?;
-    }
-    let _ = declare(&rt, alloc, &mut arena, TableId(3), b"x", 0)?;
-    remove_both(&rt, &mut arena, SymId(5), SymId(6));
-    check_order(&rt, &arena, &[0]);
-    check_counts(&rt, &arena, 5, 8, 5);
-    assert!(rt; !arena.live(SymId(7)));
-    assert!(rt; !arena.has_table(TableId(3)) && !arena.has_table(TableId(4)));
+fn remove_both(arena: &mut Arena<u32>, first: SymId, second: SymId) -> Result<(), Fail> {
+    there(arena.has_table(ROOT))?;
+    there(arena.live(first) && arena.live(second))?;
+    there(arena.table_of(first) == ROOT && arena.table_of(second) == ROOT)?;
+    there(arena.owns_no_owner(first) && arena.owns_no_owner(second))?;
+    arena.remove_all_owned(ROOT, &[first, second]);
     Ok(())
 }
 
-/// Checks the symbol at a place of the root.
-fn check_place(rt: &impl Abort, arena: &Arena<u32>, place: usize, number: u32) {
-    assert_eq!(rt; arena.at(ROOT, place), Some(SymId(number)), "at {place}");
+fn owns_no_owner(arena: &Arena<u32>, symbol: SymId) -> bool {
+    arena.live(symbol) && arena.owns_no_owner(symbol)
+}
+
+fn owners_go_at_once(alloc: Global, arena: &mut Arena<u32>) -> Result<bool, Fail> {
+    let is_sample = has_sample(alloc, arena)?;
+    let owners = !owns_no_owner(arena, SymId(0)) && owns_no_owner(arena, SymId(2));
+    let _ = declare_owner(alloc, arena, ROOT, b"q", 0)?;
+    let _ = declare_owner(alloc, arena, ROOT, b"r", 0)?;
+    let _ = declare(alloc, arena, TableId(3), b"x", 0)?;
+    remove_both(arena, SymId(5), SymId(6))?;
+    let is_left = order_is(arena, &[0]) && counts_are(arena, 5, 8, 5);
+    let is_gone = !arena.live(SymId(7))
+        && !arena.has_table(TableId(3))
+        && !arena.has_table(TableId(4));
+    Ok(is_sample && owners && is_left && is_gone)
 }
 
 #[test]
-fn places_are_far(rt: HostRuntime) -> Result<(), Fail> {
-    let alloc = rt.alloc();
-    let mut arena: Arena<u32> = Arena::new(alloc)?;
-    for number in 0..70_001u32 {
+fn symbols_are_taken_out(rt: HostRuntime) -> Result<(), Fail> {
+    let mut arena = Arena::new(rt.alloc())?;
+    assert!(rt; numbers_are_not_given_again(rt.alloc(), &mut arena)?);
+    let mut arena = Arena::new(rt.alloc())?;
+    assert!(rt; removal_closes_the_order(rt.alloc(), &mut arena)?);
+    let mut arena = Arena::new(rt.alloc())?;
+    assert!(rt; owners_go_at_once(rt.alloc(), &mut arena)?);
+    Ok(())
+}
+
+/// Declares so many names in the root.
+fn declare_many(alloc: Global, arena: &mut Arena<u32>, count: u32) -> Result<(), Fail> {
+    for number in 0..count {
         let name = Name::new(alloc, &number.to_le_bytes())?;
         arena.linked();
         let _ = arena.declare(ROOT, &name, number)?;
     }
-    check_place(&rt, &arena, 101, 101);
-    check_place(&rt, &arena, 70_000, 70_000);
+    Ok(())
+}
+
+/// Places of the root with the symbols that stand there, once one was declared in front of the places 101 and 70,000.
+const FAR: [(usize, u32); 5] = [
+    (100, 100),
+    (101, 70_001),
+    (102, 101),
+    (70_000, 70_002),
+    (70_001, 69_999),
+];
+
+fn places_are_far(alloc: Global, arena: &mut Arena<u32>) -> Result<bool, Fail> {
+    declare_many(alloc, arena, 70_001)?;
     let near = Name::new(alloc, b"near")?;
-    assert_eq!(rt;
-        declare_before(&rt, &mut arena, 101, &near, 1),
-        Ok(SymId(70_001))
-    );
+    let first = declare_before(arena, 101, &near, 1)?;
     let far = Name::new(alloc, b"far")?;
-    assert_eq!(rt;
-        declare_before(&rt, &mut arena, 70_000, &far, 2),
-        Ok(SymId(70_002))
-    );
-    for (place, number) in [
-        (101, 70_001),
-        (102, 101),
-        (70_000, 70_002),
-        (70_001, 69_999),
-    ] {
-        check_place(&rt, &arena, place, number);
+    let second = declare_before(arena, 70_000, &far, 2)?;
+    Ok(first == Ok(SymId(70_001)) && second == Ok(SymId(70_002)) && stand_far(arena))
+}
+
+fn stand_far(arena: &Arena<u32>) -> bool {
+    for (place, number) in FAR {
+        if arena.at(ROOT, place) != Some(SymId(number)) {
+            return false;
+        }
     }
-    Ok(())
+    true
+}
+
+fn numbers_end(alloc: Global, arena: &mut Arena<u32>) -> Result<bool, Fail> {
+    declare_many(alloc, arena, 1_048_576)?;
+    let is_full = counts_are(arena, 1_048_576, 1_048_576, 1);
+    let symbol = declare(alloc, arena, ROOT, b"new", 0)?;
+    let owner = declare_owner(alloc, arena, ROOT, b"new", 0)?;
+    let again = declare(alloc, arena, ROOT, &[77, 0, 0, 0], 0)?;
+    Ok(
+        is_full
+            && symbol == Err(ArenaFault::Full)
+            && owner == Err(ArenaFault::Full)
+            && again == Err(ArenaFault::Twice(SymId(77))),
+    )
 }
 
 #[test]
-fn the_numbers_end(rt: HostRuntime) -> Result<(), Fail> {
-    let alloc = rt.alloc();
-    let mut arena: Arena<u32> = Arena::new(alloc)?;
-    for number in 0..1_048_576u32 {
-        let name = Name::new(alloc, &number.to_le_bytes())?;
-        arena.linked();
-        let _ = arena.declare(ROOT, &name, number)?;
-    }
-    check_counts(&rt, &arena, 1_048_576, 1_048_576, 1);
-    assert_eq!(rt;
-        declare(&rt, alloc, &mut arena, ROOT, b"new", 0)?,
-        Err(ArenaFault::Full)
-    );
-    assert_eq!(rt;
-        declare_owner(&rt, alloc, &mut arena, ROOT, b"new", 0)?,
-        Err(ArenaFault::Full)
-    );
-    assert_eq!(rt;
-        declare(&rt, alloc, &mut arena, ROOT, &[77, 0, 0, 0], 0)?,
-        Err(ArenaFault::Twice(SymId(77)))
-    );
+fn tables_are_long(rt: HostRuntime) -> Result<(), Fail> {
+    let mut arena = Arena::new(rt.alloc())?;
+    assert!(rt; places_are_far(rt.alloc(), &mut arena)?);
+    let mut arena = Arena::new(rt.alloc())?;
+    assert!(rt; numbers_end(rt.alloc(), &mut arena)?);
     Ok(())
 }

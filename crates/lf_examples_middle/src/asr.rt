@@ -1,12 +1,12 @@
 //! The typed tree: small programs and their texts, edits in place, and trees that are deep.
 ghost use Rattle.std.specs.Prelude.{◌≡◌, [], ◌∷◌, IfOk};
 
+use crate::there::there;
 use asr_nodes::{Asr, Expr, ExprIds, PrintItem, Stmt, Symbol, code, print_asr};
 use lf_base::operator::ADD;
 use lf_base::{ExprId, Name, Sink, StmtId, SureSink, SymId, TableId};
 use sqlite_items::Items;
 use std::alloc::Global;
-use std::process::Abort;
 use std::test::Fail;
 use type_rules::{Dim, Elem, Len, Ty};
 
@@ -44,9 +44,9 @@ fn literal(asr: &mut Asr, value: i64) -> Result<ExprId, Fail> {
     Ok(asr.build_expr(Expr::IntConst { kind: 4, value })?)
 }
 
-fn sum(rt: &impl Abort, asr: &mut Asr, left: ExprId, right: ExprId) -> Result<ExprId, Fail> {
-    assert!(rt; asr.has_expr(left));
-    assert!(rt; asr.has_expr(right));
+fn sum(asr: &mut Asr, left: ExprId, right: ExprId) -> Result<ExprId, Fail> {
+    there(asr.has_expr(left))?;
+    there(asr.has_expr(right))?;
     Ok(asr.build_expr(Expr::Binary {
         operator: ADD,
         left,
@@ -54,8 +54,8 @@ fn sum(rt: &impl Abort, asr: &mut Asr, left: ExprId, right: ExprId) -> Result<Ex
     })?)
 }
 
-fn stop(rt: &impl Abort, asr: &mut Asr, line: u32, code: ExprId) -> Result<StmtId, Fail> {
-    assert!(rt; asr.has_expr(code));
+fn stop(asr: &mut Asr, line: u32, code: ExprId) -> Result<StmtId, Fail> {
+    there(asr.has_expr(code))?;
     Ok(asr.build_stmt(Stmt::Stop {
         line,
         error: code::FALSE,
@@ -64,17 +64,11 @@ fn stop(rt: &impl Abort, asr: &mut Asr, line: u32, code: ExprId) -> Result<StmtI
 }
 
 /// `if (.true.) then; else REST; end if`
-fn arm(
-    rt: &impl Abort,
-    alloc: Global,
-    asr: &mut Asr,
-    line: u32,
-    rest: StmtId,
-) -> Result<StmtId, Fail> {
+fn arm(alloc: Global, asr: &mut Asr, line: u32, rest: StmtId) -> Result<StmtId, Fail> {
     let condition = asr.build_expr(Expr::LogConst { value: code::TRUE })?;
     let else_block = one(alloc, rest)?;
-    assert!(rt; asr.has_stmt(rest));
-    assert!(rt; asr.has_expr(condition));
+    there(asr.has_stmt(rest))?;
+    there(asr.has_expr(condition))?;
     Ok(asr.build_stmt(Stmt::If {
         line,
         condition,
@@ -84,10 +78,10 @@ fn arm(
 }
 
 /// Puts `stop VALUE` in the place of a statement.
-fn stop_there(rt: &impl Abort, asr: &mut Asr, at: StmtId, value: i64) -> Result<Stmt, Fail> {
+fn stop_there(asr: &mut Asr, at: StmtId, value: i64) -> Result<Stmt, Fail> {
     let line = STOP_LINE;
     let code = asr.build_expr(Expr::IntConst { kind: 4, value })?;
-    assert!(rt; asr.has_stmt(at));
+    there(asr.has_stmt(at))?;
     asr.sound();
     Ok(asr.replace(
         at,
@@ -100,16 +94,10 @@ fn stop_there(rt: &impl Abort, asr: &mut Asr, at: StmtId, value: i64) -> Result<
 }
 
 /// Puts a block of `exit` and `stop VALUE` in the place of a statement.
-fn block_there(
-    rt: &impl Abort,
-    alloc: Global,
-    asr: &mut Asr,
-    at: StmtId,
-    value: i64,
-) -> Result<(), Fail> {
+fn block_there(alloc: Global, asr: &mut Asr, at: StmtId, value: i64) -> Result<(), Fail> {
     let line = STOP_LINE;
     let code = asr.build_expr(Expr::IntConst { kind: 4, value })?;
-    assert!(rt; asr.has_stmt(at));
+    there(asr.has_stmt(at))?;
     asr.sound();
     let mut with = Vec::new(alloc);
     with.push(Stmt::Exit { line, id: 1 })?;
@@ -122,9 +110,9 @@ fn block_there(
     Ok(())
 }
 
-fn program(rt: &impl Abort, alloc: Global, asr: &mut Asr, stmt: StmtId) -> Result<SymId, Fail> {
-    assert!(rt; asr.has_stmt(stmt));
-    assert!(rt; asr.arena().has_table(ROOT));
+fn program(alloc: Global, asr: &mut Asr, stmt: StmtId) -> Result<SymId, Fail> {
+    there(asr.has_stmt(stmt))?;
+    there(asr.arena().has_table(ROOT))?;
     let name = Name::new(alloc, b"p")?;
     let unit = Symbol::Program {
         source: bytes(alloc, b"p.f90")?,
@@ -132,25 +120,24 @@ fn program(rt: &impl Abort, alloc: Global, asr: &mut Asr, stmt: StmtId) -> Resul
         table: ROOT,
         body: one(alloc, stmt)?,
     };
-    assert_eq!(rt; asr.build_symbol(ROOT, &name, unit), Ok(SymId(0)));
-    Ok(SymId(0))
+    Ok(asr.build_symbol(ROOT, &name, unit)?)
 }
 
-fn shown(rt: &impl Abort, alloc: Global, asr: &Asr, unit: SymId) -> Result<SureSink, Fail> {
-    assert!(rt; asr.is_unit(unit));
+fn shown(alloc: Global, asr: &Asr, unit: SymId) -> Result<SureSink, Fail> {
+    there(asr.is_unit(unit))?;
     let mut sink = SureSink::new(alloc)?;
     print_asr(asr, unit, &mut sink)?;
     Ok(sink)
 }
 
-fn is_small_shown(rt: &impl Abort, alloc: Global, asr: &mut Asr) -> Result<bool, Fail> {
+fn is_small_shown(alloc: Global, asr: &mut Asr) -> Result<bool, Fail> {
     let two = literal(asr, 2)?;
     let three = literal(asr, 3)?;
-    let five = sum(rt, asr, two, three)?;
-    let last = stop(rt, asr, 2, five)?;
-    let unit = program(rt, alloc, asr, last)?;
+    let five = sum(asr, two, three)?;
+    let last = stop(asr, 2, five)?;
+    let unit = program(alloc, asr, last)?;
     Ok(
-        shown(rt, alloc, asr, unit)?.bytes()
+        shown(alloc, asr, unit)?.bytes()
             == b"(Program p \"p.f90\" [] [\n] [(Stop 2 0 (Binary 0 (IntConst 4 2) (IntConst 4 3)))])\n".as_slice(),
     )
 }
@@ -159,7 +146,7 @@ fn is_small_shown(rt: &impl Abort, alloc: Global, asr: &mut Asr) -> Result<bool,
 fn small_program_is_shown(rt: HostRuntime) -> Result<(), Fail> {
     let alloc = rt.alloc();
     let mut asr = Asr::new(alloc)?;
-    assert!(&rt; is_small_shown(&rt, alloc, &mut asr)?);
+    assert!(rt; is_small_shown(alloc, &mut asr)?);
     Ok(())
 }
 
@@ -192,56 +179,46 @@ fn chain_text(alloc: Global, last: &[u8]) -> Result<SureSink, Fail> {
 }
 
 /// A chain of `else if` with this statement at its end.
-fn chain(rt: &impl Abort, alloc: Global, asr: &mut Asr, end: StmtId) -> Result<StmtId, Fail> {
+fn chain(alloc: Global, asr: &mut Asr, end: StmtId) -> Result<StmtId, Fail> {
     let mut first = end;
     for place in 0..ARMS {
-        first = arm(rt, alloc, asr, ARMS - place, first)?;
+        first = arm(alloc, asr, ARMS - place, first)?;
     }
     Ok(first)
 }
 
 /// Whether the text of the unit is that of the chain with this statement at its end.
-fn ends_in(
-    rt: &impl Abort,
-    alloc: Global,
-    asr: &Asr,
-    unit: SymId,
-    last: &[u8],
-) -> Result<bool, Fail> {
-    Ok(shown(rt, alloc, asr, unit)?.bytes() == chain_text(alloc, last)?.bytes())
+fn ends_in(alloc: Global, asr: &Asr, unit: SymId, last: &[u8]) -> Result<bool, Fail> {
+    Ok(shown(alloc, asr, unit)?.bytes() == chain_text(alloc, last)?.bytes())
 }
 
 /// Builds a chain and edits the statement at its end, twice.
-fn is_chain_edited(
-    rt: &impl Abort,
-    alloc: Global,
-    asr: &mut Asr,
-) -> Result<(bool, bool, bool), Fail> {
+fn is_chain_edited(alloc: Global, asr: &mut Asr) -> Result<(bool, bool, bool), Fail> {
     let seven = literal(asr, 7)?;
-    let end = stop(rt, asr, STOP_LINE, seven)?;
-    let first = chain(rt, alloc, asr, end)?;
-    let unit = program(rt, alloc, asr, first)?;
-    let built = ends_in(rt, alloc, asr, unit, b"(Stop 10001 0 (IntConst 4 7))")?;
-    let _ = stop_there(rt, asr, end, 8)?;
-    let replaced = ends_in(rt, alloc, asr, unit, b"(Stop 10001 0 (IntConst 4 8))")?;
-    block_there(rt, alloc, asr, end, 9)?;
+    let end = stop(asr, STOP_LINE, seven)?;
+    let first = chain(alloc, asr, end)?;
+    let unit = program(alloc, asr, first)?;
+    let built = ends_in(alloc, asr, unit, b"(Stop 10001 0 (IntConst 4 7))")?;
+    let _ = stop_there(asr, end, 8)?;
+    let replaced = ends_in(alloc, asr, unit, b"(Stop 10001 0 (IntConst 4 8))")?;
+    block_there(alloc, asr, end, 9)?;
     let block = b"(Block 10001 [(Exit 10001 1) (Stop 10001 0 (IntConst 4 9))])";
-    Ok((built, replaced, ends_in(rt, alloc, asr, unit, block)?))
+    Ok((built, replaced, ends_in(alloc, asr, unit, block)?))
 }
 
 #[test]
 fn long_chain_is_edited_at_its_end(rt: HostRuntime) -> Result<(), Fail> {
     let alloc = rt.alloc();
     let mut asr = Asr::new(alloc)?;
-    assert_eq!(&rt; is_chain_edited(&rt, alloc, &mut asr)?, (true, true, true));
+    assert_eq!(rt; is_chain_edited(alloc, &mut asr)?, (true, true, true));
     Ok(())
 }
 
 /// An expression in so many parentheses.
-fn parenthesised(rt: &impl Abort, asr: &mut Asr, inner: ExprId) -> Result<ExprId, Fail> {
+fn parenthesised(asr: &mut Asr, inner: ExprId) -> Result<ExprId, Fail> {
     let mut e = inner;
     for _ in 0..DEPTH {
-        assert!(rt; asr.has_expr(e));
+        there(asr.has_expr(e))?;
         e = asr.build_expr(Expr::Paren { inner: e })?;
     }
     Ok(e)
@@ -264,18 +241,18 @@ fn deep_text(alloc: Global) -> Result<SureSink, Fail> {
     Ok(sink)
 }
 
-fn is_deep_shown(rt: &impl Abort, alloc: Global, asr: &mut Asr) -> Result<bool, Fail> {
+fn is_deep_shown(alloc: Global, asr: &mut Asr) -> Result<bool, Fail> {
     let seven = literal(asr, 7)?;
-    let deep = parenthesised(rt, asr, seven)?;
-    let end = stop(rt, asr, 2, deep)?;
-    let unit = program(rt, alloc, asr, end)?;
-    Ok(shown(rt, alloc, asr, unit)?.bytes() == deep_text(alloc)?.bytes())
+    let deep = parenthesised(asr, seven)?;
+    let end = stop(asr, 2, deep)?;
+    let unit = program(alloc, asr, end)?;
+    Ok(shown(alloc, asr, unit)?.bytes() == deep_text(alloc)?.bytes())
 }
 
 #[test]
 fn deep_expression_is_shown(rt: HostRuntime) -> Result<(), Fail> {
     let alloc = rt.alloc();
     let mut asr = Asr::new(alloc)?;
-    assert!(&rt; is_deep_shown(&rt, alloc, &mut asr)?);
+    assert!(rt; is_deep_shown(alloc, &mut asr)?);
     Ok(())
 }

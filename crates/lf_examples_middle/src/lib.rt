@@ -9,4 +9,6 @@ mod asr;
 #[cfg(test)]
 mod operations;
 #[cfg(test)]
+mod there;
+#[cfg(test)]
 mod types;

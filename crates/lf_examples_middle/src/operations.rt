@@ -479,46 +479,19 @@ fn first_wrong(alloc: Global, cases: &[Case]) -> Result<Option<usize>, AllocErro
     Ok(None)
 }
 
-#[test]
-fn folds_sums(rt: HostRuntime) -> Result<(), Fail> {
-    assert_eq!(rt; first_wrong(rt.alloc(), &SUMS)?, None);
-    Ok(())
-}
+/// The tables of cases.
+const TABLES: [&[Case]; 7] = [
+    &SUMS, &QUOTIENTS, &POWERS, &NUMBERS, &RELATIONS, &LOGICALS, &TEXTS,
+];
 
-#[test]
-fn folds_quotients(rt: HostRuntime) -> Result<(), Fail> {
-    assert_eq!(rt; first_wrong(rt.alloc(), &QUOTIENTS)?, None);
-    Ok(())
-}
-
-#[test]
-fn folds_powers(rt: HostRuntime) -> Result<(), Fail> {
-    assert_eq!(rt; first_wrong(rt.alloc(), &POWERS)?, None);
-    Ok(())
-}
-
-#[test]
-fn folds_numbers(rt: HostRuntime) -> Result<(), Fail> {
-    assert_eq!(rt; first_wrong(rt.alloc(), &NUMBERS)?, None);
-    Ok(())
-}
-
-#[test]
-fn folds_relations(rt: HostRuntime) -> Result<(), Fail> {
-    assert_eq!(rt; first_wrong(rt.alloc(), &RELATIONS)?, None);
-    Ok(())
-}
-
-#[test]
-fn folds_logicals(rt: HostRuntime) -> Result<(), Fail> {
-    assert_eq!(rt; first_wrong(rt.alloc(), &LOGICALS)?, None);
-    Ok(())
-}
-
-#[test]
-fn folds_texts(rt: HostRuntime) -> Result<(), Fail> {
-    assert_eq!(rt; first_wrong(rt.alloc(), &TEXTS)?, None);
-    Ok(())
+/// The place of the first table with such a case, and the case's place in it, if there is one.
+fn first_wrong_of_all(alloc: Global) -> Result<Option<(usize, usize)>, AllocError> {
+    for (at, table) in TABLES.iter().enumerate() {
+        if let Some(case) = first_wrong(alloc, table)? {
+            return Ok(Some((at, case)));
+        }
+    }
+    Ok(None)
 }
 
 /// So many numbers 9, and a last one.
@@ -531,15 +504,25 @@ fn nines(alloc: Global, count: usize, last: i64) -> Result<Vec<Const>, AllocErro
     Ok(all)
 }
 
-#[test]
-fn takes_31_arguments(rt: HostRuntime) -> Result<(), Fail> {
-    let args = nines(rt.alloc(), 30, -9)?;
-    assert!(rt; is_wanted(&fold(rt.alloc(), MIN, args.as_slice()), &Int(4, -9)));
-    let args = nines(rt.alloc(), 30, 10)?;
-    assert!(rt; is_wanted(&fold(rt.alloc(), MAX, args.as_slice()), &Int(4, 10)));
-    let args = nines(rt.alloc(), 31, 9)?;
-    assert!(rt; is_wanted(&fold(rt.alloc(), MIN, args.as_slice()), &NO_RULE));
-    Ok(())
+/// Whether an extreme of numbers 9 and a last one is this.
+fn is_extreme(
+    alloc: Global,
+    op: Op,
+    count: usize,
+    last: i64,
+    want: &Value,
+) -> Result<bool, AllocError> {
+    let args = nines(alloc, count, last)?;
+    Ok(is_wanted(&fold(alloc, op, args.as_slice()), want))
+}
+
+/// Whether 31 arguments are taken, and no more.
+fn takes_31(alloc: Global) -> Result<bool, AllocError> {
+    Ok(
+        is_extreme(alloc, MIN, 30, -9, &Int(4, -9))?
+            && is_extreme(alloc, MAX, 30, 10, &Int(4, 10))?
+            && is_extreme(alloc, MIN, 31, 9, &NO_RULE)?,
+    )
 }
 
 /// So many bytes.
@@ -550,35 +533,50 @@ fn long_text(alloc: Global, count: usize) -> Result<Const, AllocError> {
     })
 }
 
-#[test]
-fn long_texts_stay_whole(rt: HostRuntime) -> Result<(), Fail> {
-    let alloc = rt.alloc();
+/// Whether an operation on a long text gives it whole, and its length is told.
+fn stays_whole(alloc: Global) -> Result<bool, AllocError> {
     let mut args = Vec::new(alloc);
     args.push(long_text(alloc, 65_535)?)?;
-    assert!(rt; is_wanted(&fold(alloc, LEN_TRIM, args.as_slice()), &Int(4, 65_535)));
+    let length = fold(alloc, LEN_TRIM, args.as_slice());
     let same = fold(alloc, TRIM, args.as_slice());
-    assert!(rt; matches!(&same, Ok(text) if *text == args[0]));
+    Ok(is_wanted(&length, &Int(4, 65_535)) && matches!(&same, Ok(text) if *text == args[0]))
+}
+
+fn is_padded(alloc: Global) -> Result<bool, AllocError> {
     let long = Elem::Character {
         len: Len::Fixed { n: 65_535 },
     };
     let short = constant(alloc, &Text(b"a"))?;
     let padded = assigned_constant(alloc, long, &short);
-    assert!(rt; matches!(&padded, Ok(Const::CharConst { bytes }) if bytes.len() == 65_535));
-    Ok(())
+    Ok(matches!(&padded, Ok(Const::CharConst { bytes }) if bytes.len() == 65_535))
+}
+
+/// Two texts of so many bytes, one behind the other.
+fn joined(
+    alloc: Global,
+    first: usize,
+    second: usize,
+) -> Result<Result<Const, TypeFault>, AllocError> {
+    let mut args = Vec::new(alloc);
+    args.push(long_text(alloc, first)?)?;
+    args.push(long_text(alloc, second)?)?;
+    Ok(fold(alloc, Op::Binary(code::CONCATENATE), args.as_slice()))
+}
+
+fn joins_up_to_the_limit(alloc: Global) -> Result<bool, AllocError> {
+    let most = joined(alloc, 65_000, 535)?;
+    let more = joined(alloc, 65_000, 536)?;
+    Ok(
+        matches!(&most, Ok(Const::CharConst { bytes }) if bytes.len() == 65_535)
+            && matches!(&more, Err(TypeFault::Rule(Rule::E416))),
+    )
 }
 
 #[test]
-fn joins_up_to_the_limit(rt: HostRuntime) -> Result<(), Fail> {
-    let alloc = rt.alloc();
-    let mut args = Vec::new(alloc);
-    args.push(long_text(alloc, 65_000)?)?;
-    args.push(long_text(alloc, 535)?)?;
-    let joined = fold(alloc, Op::Binary(code::CONCATENATE), args.as_slice());
-    assert!(rt; matches!(&joined, Ok(Const::CharConst { bytes }) if bytes.len() == 65_535));
-    let mut args = Vec::new(alloc);
-    args.push(long_text(alloc, 65_000)?)?;
-    args.push(long_text(alloc, 536)?)?;
-    let joined = fold(alloc, Op::Binary(code::CONCATENATE), args.as_slice());
-    assert!(rt; matches!(&joined, Err(TypeFault::Rule(Rule::E416))));
+fn operations_give_their_values(rt: HostRuntime) -> Result<(), Fail> {
+    assert_eq!(rt; first_wrong_of_all(rt.alloc())?, None);
+    assert!(rt; takes_31(rt.alloc())?);
+    assert!(rt; stays_whole(rt.alloc())? && is_padded(rt.alloc())?);
+    assert!(rt; joins_up_to_the_limit(rt.alloc())?);
     Ok(())
 }

@@ -348,23 +348,17 @@ fn first_wrong(alloc: Global, cases: &[Case]) -> Result<Option<usize>, AllocErro
     Ok(None)
 }
 
-#[test]
-fn types_of_numbers(rt: HostRuntime) -> Result<(), Fail> {
-    assert_eq!(rt; first_wrong(rt.alloc(), &ARITHMETIC)?, None);
-    Ok(())
-}
+/// The tables of operations.
+const TABLES: [&[Case]; 6] = [&ARITHMETIC, &RELATIONS, &LOGICALS, &TEXTS, &SHAPES, &PLANES];
 
-#[test]
-fn types_of_relations(rt: HostRuntime) -> Result<(), Fail> {
-    assert_eq!(rt; first_wrong(rt.alloc(), &RELATIONS)?, None);
-    Ok(())
-}
-
-#[test]
-fn types_of_logicals_and_texts(rt: HostRuntime) -> Result<(), Fail> {
-    assert_eq!(rt; first_wrong(rt.alloc(), &LOGICALS)?, None);
-    assert_eq!(rt; first_wrong(rt.alloc(), &TEXTS)?, None);
-    Ok(())
+/// The place of the first table with such a case, and the case's place in it, if there is one.
+fn first_wrong_of_all(alloc: Global) -> Result<Option<(usize, usize)>, AllocError> {
+    for (at, table) in TABLES.iter().enumerate() {
+        if let Some(case) = first_wrong(alloc, table)? {
+            return Ok(Some((at, case)));
+        }
+    }
+    Ok(None)
 }
 
 /// The place of the first call of a function that answers otherwise, if one does.
@@ -380,14 +374,6 @@ fn first_wrong_call(
         }
     }
     Ok(None)
-}
-
-#[test]
-fn types_of_arrays(rt: HostRuntime) -> Result<(), Fail> {
-    assert_eq!(rt; first_wrong(rt.alloc(), &SHAPES)?, None);
-    assert_eq!(rt; first_wrong(rt.alloc(), &PLANES)?, None);
-    assert_eq!(rt; first_wrong_call(rt.alloc(), &ON_PLANES)?, None);
-    Ok(())
 }
 
 /// Two types, and whether they are the same one.
@@ -416,12 +402,6 @@ fn first_misjudged(
         }
     }
     Ok(None)
-}
-
-#[test]
-fn matches_by_type_kind_and_rank(rt: HostRuntime) -> Result<(), Fail> {
-    assert_eq!(rt; first_misjudged(rt.alloc(), &SAME)?, None);
-    Ok(())
 }
 
 fn types(alloc: Global, shapes: &[Shape]) -> Result<Vec<Ty>, AllocError> {
@@ -454,15 +434,22 @@ fn chosen(alloc: Global, args: &[Shape]) -> Result<Option<usize>, AllocError> {
     Ok(resolve_generic(specifics.as_slice(), args.as_slice()))
 }
 
-#[test]
-fn chooses_the_specific(rt: HostRuntime) -> Result<(), Fail> {
-    let alloc = rt.alloc();
-    assert_eq!(rt; chosen(alloc, &[(I8, &[])])?, Some(1));
-    assert_eq!(rt; chosen(alloc, &[(I4, &[THREE])])?, Some(2));
-    assert_eq!(rt; chosen(alloc, &[(I4, &[]), (CX, &[])])?, Some(3));
-    assert_eq!(rt; chosen(alloc, &[(L, &[])])?, None);
-    assert_eq!(rt; chosen(alloc, &[])?, None);
-    Ok(())
+/// Arguments, and the place of the specific that takes them.
+const CHOSEN: [(&[Shape], Option<usize>); 5] = [
+    (&[(I8, &[])], Some(1)),
+    (&[(I4, &[THREE])], Some(2)),
+    (&[(I4, &[]), (CX, &[])], Some(3)),
+    (&[(L, &[])], None),
+    (&[], None),
+];
+
+fn first_not_chosen(alloc: Global) -> Result<Option<usize>, AllocError> {
+    for (at, case) in CHOSEN.iter().enumerate() {
+        if chosen(alloc, case.0)? != case.1 {
+            return Ok(Some(at));
+        }
+    }
+    Ok(None)
 }
 
 fn apart(alloc: Global, a: &[Shape], b: &[Shape]) -> Result<bool, AllocError> {
@@ -471,18 +458,38 @@ fn apart(alloc: Global, a: &[Shape], b: &[Shape]) -> Result<bool, AllocError> {
     Ok(distinguishable(a.as_slice(), b.as_slice()))
 }
 
+/// The dummies of two specifics, and whether they are distinguishable.
+const APART: [(&[Shape], &[Shape], bool); 4] = [
+    (&[(I4, &[])], &[(I8, &[])], true),
+    (&[(I4, &[])], &[(I4, &[ONE])], true),
+    (&[(I4, &[])], &[(I4, &[]), (L, &[])], true),
+    (
+        &[(I4, &[ONE]), (C3, &[])],
+        &[(I4, &[ANY]), (CX, &[])],
+        false,
+    ),
+];
+
+fn first_not_apart(alloc: Global) -> Result<Option<usize>, AllocError> {
+    for (at, case) in APART.iter().enumerate() {
+        if apart(alloc, case.0, case.1)? != case.2 {
+            return Ok(Some(at));
+        }
+    }
+    Ok(None)
+}
+
 #[test]
-fn tells_specifics_apart(rt: HostRuntime) -> Result<(), Fail> {
-    let alloc = rt.alloc();
-    assert!(rt; apart(alloc, &[(I4, &[])], &[(I8, &[])])?);
-    assert!(rt; apart(alloc, &[(I4, &[])], &[(I4, &[ONE])])?);
-    assert!(rt; apart(alloc, &[(I4, &[])], &[(I4, &[]), (L, &[])])?);
-    assert!(rt;
-        !apart(
-            alloc,
-            &[(I4, &[ONE]), (C3, &[])],
-            &[(I4, &[ANY]), (CX, &[])]
-        )?
-    );
+fn operations_have_their_types(rt: HostRuntime) -> Result<(), Fail> {
+    assert_eq!(rt; first_wrong_of_all(rt.alloc())?, None);
+    assert_eq!(rt; first_wrong_call(rt.alloc(), &ON_PLANES)?, None);
+    Ok(())
+}
+
+#[test]
+fn types_are_matched(rt: HostRuntime) -> Result<(), Fail> {
+    assert_eq!(rt; first_misjudged(rt.alloc(), &SAME)?, None);
+    assert_eq!(rt; first_not_chosen(rt.alloc())?, None);
+    assert_eq!(rt; first_not_apart(rt.alloc())?, None);
     Ok(())
 }

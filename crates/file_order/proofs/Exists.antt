@@ -12,7 +12,7 @@ use Rattle.file_order.specs.Search.{IsReady, IsGreedy}
 use Rattle.ast_nodes.specs.declared.file.File.{File}
 use Rattle.file_order.specs.Laws.{HasOrderOrStuck}
 use Rattle.file_order.specs.Modules.{at_place, held_by, used_by, MustPrecede}
-use Rattle.file_order.proofs.HolderLemmas.{same_name, at_within}
+use Rattle.file_order.proofs.NumberLemmas.{same_name, at_within}
 use Rattle.file_order.proofs.Lists.{contains_rest}
 use Rattle.file_order.proofs.Greedy.{greedy_none, greedy_push, greedy_once, greedy_below, greedy_least}
 

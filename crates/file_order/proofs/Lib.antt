@@ -1,10 +1,12 @@
 pub mod AnswerLemmas
 pub mod Exists
+pub mod Falling
 pub mod Greedy
 pub mod Heaps
-pub mod HolderLemmas
 pub mod Lists
+pub mod NumberLemmas
 pub mod RowLemmas
 pub mod Samples
 pub mod SearchLemmas
+pub mod TableLemmas
 pub mod WalkLemmas

@@ -9,7 +9,7 @@ use Rattle.file_order.specs.Modules.{MustPrecede, held_by, used_by}
 use Rattle.file_order.specs.Orders.{IsOnce}
 use Rattle.file_order.specs.Search.{IsGreedy}
 use Rattle.file_order.proofs.Greedy.{greedy_least}
-use Rattle.file_order.proofs.HolderLemmas.{at_within}
+use Rattle.file_order.proofs.NumberLemmas.{at_within}
 use Rattle.file_order.proofs.Lists.{contains_first, contains_rest, not_in_none}
 
 empty : (name : List ℕ) → Contains {X = List ℕ} [] name → ⊥

@@ -1,75 +1,75 @@
 -- The steps of a walk.
-use Rattle.std.proofs.Common.{◌≡◌, ◌≢◌, ◌<◌, ◌≤◌, ◌+◌, ⊎_elim, ℕ, Bool, false, Option, Some, None, List, [], ◌∷◌, ◌++◌, length, get_or, set, take, drop, replicate, min, sym, ◌∙◌, ap, subst, arith}
+use Rattle.std.proofs.Common.{◌≡◌, ◌≢◌, ◌<◌, ◌≤◌, ◌+◌, ◌⊎◌, inl, inr, ⊎_elim, ℕ, Bool, false, Option, Some, None, List, [], ◌∷◌, ◌++◌, length, get_or, set, take, drop, min, sym, ◌∙◌, ap, subst, arith}
 use Rattle.std.specs.List.{Contains}
+use Rattle.std.specs.Option.{IsSome}
 use Rattle.std.proofs.lemmas.Bool.{cases_eq, cases_lt}
-use Rattle.std.proofs.lemmas.List.{get_or_append_left, get_or_push, length_push, get_or-set_same, get_or-set_other, length-set, get_or-replicate, get_or_past, length-replicate, take-append-drop, drop_more, get_or_default}
+use Rattle.std.proofs.lemmas.List.{get_or_append_left, get_or_push, length_push, get_or-set_same, get_or-set_other, length-set, get_or_past, take-append-drop, drop_more, get_or_default}
 use Rattle.std.proofs.lemmas.List.Elements.{Contains-append_left, Contains-push, Contains-push_cases}
 use Rattle.file_order.specs.Orders.{IsOnce}
 use Rattle.file_order.specs.Cycles.{IsLeastOf, IsWalk, IsCycle}
-use Rattle.file_order.specs.Search.{is_open, IsOpen, IsListed}
-use Rattle.file_order.specs.Walks.{IsLeastOpen, first_visit, IsWalking}
-use Rattle.file_order.proofs.Lists.{contains_at, not_in_none}
-use Rattle.file_order.proofs.SearchLemmas.{not_both}
+use Rattle.file_order.specs.Search.{row_at, is_open, IsOpen, IsListed, IsLeastIf, IsTrimmed, IsBefore}
+use Rattle.file_order.specs.Walks.{lesser_of, first_visit, IsWalking}
+use Rattle.file_order.proofs.Lists.{contains_at}
+use Rattle.file_order.proofs.Falling.{not_both}
 
-pub least_none : (marks : List Bool) → IsLeastOpen marks [] None
-least_none marks q h = absurd (not_in_none q h)
-
--- one more that is not open
-pub least_shut : (marks : List Bool) (places : List ℕ) (least : Option ℕ) (p : ℕ) → IsLeastOpen marks places least → is_open marks p ≡ false → IsLeastOpen marks (places ++ p ∷ []) least
-least_shut marks places None p h shut = λ q c.
+-- the lesser of the least of two sets
+pub least_lesser : (P Q : ℕ → Type 0) (a b : Option ℕ) → IsLeastIf P a → IsLeastIf Q b → IsLeastIf (λ q. P q ⊎ Q q) (lesser_of a b)
+least_lesser P Q None None h k = λ q g. ⊎_elim (λ (p : P q). h q p) (λ (p : Q q). k q p) g
+least_lesser P Q None (Some y) h k = (inr k.0, λ q g. ⊎_elim (λ (p : P q). absurd (h q p)) (λ (p : Q q). k.1 q p) g)
+least_lesser P Q (Some x) None h k = (inl h.0, λ q g. ⊎_elim (λ (p : P q). h.1 q p) (λ (p : Q q). absurd (k q p)) g)
+least_lesser P Q (Some x) (Some y) h k =
     ⊎_elim
-    (λ (was : Contains places q). h q was)
-    (λ (is : p ≡ q). ap (is_open marks) (sym is) ∙ shut)
-    (Contains-push_cases places p q c)
-least_shut marks places (Some x) p h shut = (
-  Contains-append_left places (p ∷ []) x h.0,
-  h.1,
-  λ q c o.
-      ⊎_elim
-      (λ (was : Contains places q). h.2 q was o)
-      (λ (is : p ≡ q). absurd (not_both (is_open marks q) o (ap (is_open marks) (sym is) ∙ shut)))
-      (Contains-push_cases places p q c),
+    (λ (less : x < y).
+    let is : x ≡ min x y = omega arith in
+    subst (λ (z : ℕ). IsLeastIf (λ q. P q ⊎ Q q) (Some z)) is (inl h.0, λ q g. ⊎_elim (λ (p : P q). h.1 q p) (λ (p : Q q). let upto : y ≤ q = k.1 q p in omega arith) g))
+    (λ (more : y ≤ x).
+    let is : y ≡ min x y = omega arith in
+    subst (λ (z : ℕ). IsLeastIf (λ q. P q ⊎ Q q) (Some z)) is (inr k.0, λ q g. ⊎_elim (λ (p : P q). let upto : x ≤ q = h.1 q p in omega arith) (λ (p : Q q). k.1 q p) g))
+    (cases_lt x y)
+
+pub least_as : (P Q : ℕ → Type 0) (o : Option ℕ) → ((q : ℕ) → P q → Q q) → ((q : ℕ) → Q q → P q) → IsLeastIf P o → IsLeastIf Q o
+least_as P Q None to from h = λ q g. h q (from q g)
+least_as P Q (Some p) to from h = (to p h.0, λ q g. h.1 q (from q g))
+
+-- an open place that must stand before a place, by one of these modules
+abbrev pub IsBeforeBy : List Bool → List (List ℕ) → List ℕ → ℕ → ℕ → Type 0
+IsBeforeBy marks holders modules here a = (a ≢ here) × IsOpen marks a × ((m : ℕ) × Contains modules m × IsListed holders a m)
+
+-- one more module, by holders that were trimmed meanwhile
+pub before_more : (marks : List Bool) (holders mid : List (List ℕ)) (modules : List ℕ) (here m : ℕ) (a b c : Option ℕ) → IsTrimmed marks holders mid → IsLeastIf (IsBeforeBy marks holders modules here) a → IsLeastIf (λ q. (q ≢ here) × IsOpen marks q × IsListed mid q m) b → c ≡ lesser_of a b → IsLeastIf (IsBeforeBy marks holders (modules ++ m ∷ []) here) c
+before_more marks holders mid modules here m a b c t least other e =
+    subst (λ (o : Option ℕ). IsLeastIf (IsBeforeBy marks holders (modules ++ m ∷ []) here) o) (sym e)
+    (least_as (λ q. IsBeforeBy marks holders modules here q ⊎ ((q ≢ here) × IsOpen marks q × IsListed mid q m)) (IsBeforeBy marks holders (modules ++ m ∷ []) here) (lesser_of a b)
+    (λ q h. ⊎_elim
+    (λ (was : IsBeforeBy marks holders modules here q). (was.0, was.1, (was.2.0, Contains-append_left modules (m ∷ []) was.2.0 was.2.1, was.2.2)))
+    (λ (now : (q ≢ here) × IsOpen marks q × IsListed mid q m). (now.0, now.1, (m, Contains-push modules m, t.listed q m now.2)))
+    h)
+    (λ q h. ⊎_elim
+    (λ (was : Contains modules h.2.0). inl (h.0, h.1, (h.2.0, was, h.2.2)))
+    (λ (is : m ≡ h.2.0). inr (h.0, h.1, t.kept q m (subst (λ (x : ℕ). IsListed holders q x) (sym is) h.2.2) h.1))
+    (Contains-push_cases modules m h.2.0 h.2.1))
+    (least_lesser (IsBeforeBy marks holders modules here) (λ q. (q ≢ here) × IsOpen marks q × IsListed mid q m) a b least other))
+
+pub before_all : (marks : List Bool) (holders uses : List (List ℕ)) (modules : List ℕ) (here : ℕ) (o : Option ℕ) → modules ≡ row_at uses here → IsLeastIf (IsBeforeBy marks holders modules here) o → IsLeastIf (λ a. IsOpen marks a × IsBefore holders uses a here) o
+before_all marks holders uses modules here o e h =
+    least_as (IsBeforeBy marks holders modules here) (λ a. IsOpen marks a × IsBefore holders uses a here) o
+    (λ q g. (g.1, (g.0, (g.2.0, g.2.2, subst (λ (xs : List ℕ). Contains xs g.2.0) e g.2.1))))
+    (λ q g. (g.1.0, g.0, (g.1.1.0, subst (λ (xs : List ℕ). Contains xs g.1.1.0) (sym e) g.1.1.2, g.1.1.1)))
+    h
+
+pub least_is_some : (P : ℕ → Type 0) (o : Option ℕ) → IsLeastIf P o → (a : ℕ) × P a → IsSome o
+least_is_some P None h some = absurd (h some.0 some.1)
+least_is_some P (Some p) h some = cc
+
+-- the same by holders that were trimmed
+pub step_as : (marks : List Bool) (holders mid uses : List (List ℕ)) (here p : ℕ) → IsTrimmed marks holders mid → IsLeastOf (λ a. IsOpen marks a × IsBefore mid uses a here) p → IsLeastOf (λ a. IsOpen marks a × IsBefore holders uses a here) p
+step_as marks holders mid uses here p t h = (
+  (h.0.0, (h.0.1.0, (h.0.1.1.0, t.listed p h.0.1.1.0 h.0.1.1.1, h.0.1.1.2))),
+  λ q g. h.1 q (g.0, (g.1.0, (g.1.1.0, t.kept q g.1.1.0 g.1.1.1 g.0, g.1.1.2))),
 )
 
--- the first that is open
-pub least_first : (marks : List Bool) (places : List ℕ) (p : ℕ) → IsLeastOpen marks places None → IsOpen marks p → IsLeastOpen marks (places ++ p ∷ []) (Some p)
-least_first marks places p h o = (
-  Contains-push places p,
-  o,
-  λ q c open_q.
-      ⊎_elim
-      (λ (was : Contains places q). absurd (not_both (is_open marks q) open_q (h q was)))
-      (λ (is : p ≡ q). omega arith)
-      (Contains-push_cases places p q c),
-)
-
--- one more that is open
-pub least_min : (marks : List Bool) (places : List ℕ) (x p y : ℕ) → IsLeastOpen marks places (Some x) → IsOpen marks p → y ≡ min x p → IsLeastOpen marks (places ++ p ∷ []) (Some y)
-least_min marks places x p y h o e =
-    ⊎_elim
-    (λ (less : x < p).
-    let is : x ≡ y = omega arith in
-    subst (λ (z : ℕ). IsLeastOpen marks (places ++ p ∷ []) (Some z)) is (
-      Contains-append_left places (p ∷ []) x h.0,
-      h.1,
-      λ q c open_q.
-          ⊎_elim
-          (λ (was : Contains places q). h.2 q was open_q)
-          (λ (same : p ≡ q). omega arith)
-          (Contains-push_cases places p q c),
-    ))
-    (λ (more : p ≤ x).
-    let is : p ≡ y = omega arith in
-    subst (λ (z : ℕ). IsLeastOpen marks (places ++ p ∷ []) (Some z)) is (
-      Contains-push places p,
-      o,
-      λ q c open_q.
-          ⊎_elim
-          (λ (was : Contains places q). let upto : x ≤ q = h.2 q was open_q in omega arith)
-          (λ (same : p ≡ q). omega arith)
-          (Contains-push_cases places p q c),
-    ))
-    (cases_lt x p)
+pub still_waits : (marks : List Bool) (holders mid uses : List (List ℕ)) (here : ℕ) → IsTrimmed marks holders mid → (a : ℕ) × IsOpen marks a × IsBefore holders uses a here → (a : ℕ) × IsOpen marks a × IsBefore mid uses a here
+still_waits marks holders mid uses here t w = (w.0, w.1, (w.2.0, (w.2.1.0, t.kept w.0 w.2.1.0 w.2.1.1 w.1, w.2.1.2)))
 
 module _ (In : ℕ → Type 0) (Before : ℕ → ℕ → Type 0) where
   pub walk_first : (p : ℕ) → IsLeastOf In p → IsWalk In Before (p ∷ [])
@@ -112,31 +112,15 @@ module _ (In : ℕ → Type 0) (Before : ℕ → ℕ → Type 0) where
       new (contains_at walk i p (inside, sym (get_or_append_left walk (p ∷ []) 0 i inside) ∙ same ∙ get_or_push walk p 0 j is)))
       (cases_lt j (length walk))
 
-pub walking_none : (rows : List (List ℕ)) (marks : List Bool) (seen : List (Option ℕ)) (start : ℕ) → seen ≡ replicate (length marks) None → IsLeastOf (IsOpen marks) start → IsWalking rows marks [] seen start
-walking_none rows marks seen start e least =
-    let unseen : (p : ℕ) → first_visit seen p ≡ None = λ p.
-    ap (λ (x : List (Option ℕ)). first_visit x p) e ∙ ⊎_elim
-    (λ (less : p < length marks). get_or-replicate (length marks) p None None less)
-    (λ (more : length marks ≤ p). get_or_past (replicate (length marks) None) p None (omega (arith, length-replicate {A = Option ℕ} (length marks) None)))
-    (cases_lt p (length marks)) in
-    record {
-      path = walk_first (IsOpen marks) (IsListed rows) start least;
-      here_open = least.0;
-      once = λ i j less within same. absurd (omega (arith, within));
-      marked = ap length e ∙ length-replicate {A = Option ℕ} (length marks) None;
-      visited = λ p i h. let never : None ≡ Some i = sym (unseen p) ∙ h in cc;
-      new = λ p h c. not_in_none p c;
-    }
-
-pub walking_more : (rows : List (List ℕ)) (marks : List Bool) (walk : List ℕ) (seen : List (Option ℕ)) (here next : ℕ) → IsWalking rows marks walk seen here → first_visit seen here ≡ None → here < length seen → IsLeastOf (λ a. IsOpen marks a × IsListed rows a here) next → IsWalking rows marks (walk ++ here ∷ []) (set seen here (Some (length walk))) next
-walking_more rows marks walk seen here next w unseen within least =
+pub walking_more : (Before : ℕ → ℕ → Type 0) (marks : List Bool) (walk : List ℕ) (seen : List (Option ℕ)) (here next : ℕ) → IsWalking Before marks walk seen here → first_visit seen here ≡ None → here < length seen → IsLeastOf (λ a. IsOpen marks a × Before a here) next → IsWalking Before marks (walk ++ here ∷ []) (set seen here (Some (length walk))) next
+walking_more Before marks walk seen here next w unseen within least =
     let at_here : first_visit (set seen here (Some (length walk))) here ≡ Some (length walk) = get_or-set_same seen here (Some (length walk)) None within in
     let elsewhere : (p : ℕ) → p ≢ here → first_visit (set seen here (Some (length walk))) p ≡ first_visit seen p = λ p other. get_or-set_other seen here p (Some (length walk)) None other in
     let long = length_push walk here in
     record {
-      path = walk_more (IsOpen marks) (IsListed rows) walk here next w.path least;
+      path = walk_more (IsOpen marks) Before walk here next w.path least;
       here_open = least.0.0;
-      once = once_more (IsOpen marks) (IsListed rows) walk here w.once (w.new here unseen);
+      once = once_more (IsOpen marks) Before walk here w.once (w.new here unseen);
       marked = length-set seen here (Some (length walk)) ∙ w.marked;
       visited = λ p i h.
           ⊎_elim
@@ -159,8 +143,8 @@ walking_more rows marks walk seen here next w unseen within least =
           (cases_eq p here);
     }
 
-pub here_within : (rows : List (List ℕ)) (marks : List Bool) (walk : List ℕ) (seen : List (Option ℕ)) (here : ℕ) → IsWalking rows marks walk seen here → here < length seen
-here_within rows marks walk seen here w =
+pub here_within : (Before : ℕ → ℕ → Type 0) (marks : List Bool) (walk : List ℕ) (seen : List (Option ℕ)) (here : ℕ) → IsWalking Before marks walk seen here → here < length seen
+here_within Before marks walk seen here w =
     ⊎_elim
     (λ (less : here < length marks). omega (arith, w.marked))
     (λ (more : length marks ≤ here). absurd (not_both (is_open marks here) w.here_open (get_or_past marks here false more)))
@@ -169,8 +153,8 @@ here_within rows marks walk seen here w =
 pub visit_is : (seen : List (Option ℕ)) (here : ℕ) (read at : Option ℕ) → here < length seen → read ≡ get_or seen here read → read ≡ at → first_visit seen here ≡ at
 visit_is seen here read at within e f = get_or_default seen here None read within ∙ sym e ∙ f
 
-pub walking_end : (rows : List (List ℕ)) (marks : List Bool) (walk : List ℕ) (seen : List (Option ℕ)) (here first : ℕ) → IsWalking rows marks walk seen here → first_visit seen here ≡ Some first → IsCycle (IsOpen marks) (IsListed rows) (drop first walk)
-walking_end rows marks walk seen here first w found =
+pub walking_end : (Before : ℕ → ℕ → Type 0) (marks : List Bool) (walk : List ℕ) (seen : List (Option ℕ)) (here first : ℕ) → IsWalking Before marks walk seen here → first_visit seen here ≡ Some first → IsCycle (IsOpen marks) Before (drop first walk)
+walking_end Before marks walk seen here first w found =
     let at = w.visited here first found in
     let whole = take-append-drop first walk in
     record {
@@ -178,7 +162,7 @@ walking_end rows marks walk seen here first w found =
       again = here;
       rest = drop (first + 1) walk;
       is = drop_more walk first 0 at.0 ∙ ap (λ (x : ℕ). x ∷ drop (first + 1) walk) at.1;
-      walk = subst (λ (xs : List ℕ). IsWalk (IsOpen marks) (IsListed rows) (xs ++ here ∷ [])) (sym whole) w.path;
+      walk = subst (λ (xs : List ℕ). IsWalk (IsOpen marks) Before (xs ++ here ∷ [])) (sym whole) w.path;
       once = subst IsOnce (sym whole) w.once;
     }
 

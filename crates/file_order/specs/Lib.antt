@@ -1,9 +1,10 @@
 pub mod Examples
-pub mod Holders
 pub mod Laws
 pub mod Modules
+pub mod Numbers
 pub mod Orders
 pub mod Answers
 pub mod Cycles
 pub mod Search
+pub mod Tables
 pub mod Walks

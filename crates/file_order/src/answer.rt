@@ -5,7 +5,7 @@ ghost use Rattle.file_order.specs.Search.{IsOpen, is_open};
 
 use crate::cycle::cycle_from;
 use crate::fault::OrderFault;
-use crate::holders::predecessors;
+use crate::modules::modules_of;
 use crate::search::search_from;
 use ast_nodes::File;
 use std::alloc::Global;
@@ -31,17 +31,17 @@ fn first_open(marks: &[bool]) -> Option<usize>
 /// which a walk comes that begins at the first of the stuck files, and goes each time to the first
 /// stuck file that must stand before the present one.
 ///
-/// It takes time in the names and uses, and in the pairs of files of which one must stand before the
-/// other, up to a logarithm.
+/// It takes time and memory in the files and the names that they hold and use, up to a logarithm.
 pub fn order(alloc: Global, files: &[File]) -> Result<Vec<usize>, OrderFault>
     ensures { IsAnswer files.now result }
 {
-    let before = predecessors(alloc, files)?;
-    let search = search_from(alloc, before)?;
+    let modules = modules_of(alloc, files)?;
+    let mut search = search_from(alloc, modules)?;
     match first_open(&search.marks) {
         None => Ok(search.order),
         Some(start) => {
-            let cycle = cycle_from(alloc, &search.marks, &search.before, start)?;
+            let left = &mut search.modules;
+            let cycle = cycle_from(alloc, &search.marks, &mut left.holders, &left.uses, start)?;
             Err(OrderFault::Cycle(cycle))
         }
     }

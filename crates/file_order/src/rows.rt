@@ -1,4 +1,4 @@
-//! Lists of places, one for each place.
+//! Rows of numbers: of places for each module, and of modules for each place.
 ghost use Rattle.std.specs.Prelude.{◌≡◌, ◌<◌, [], ◌∷◌, ◌++◌, ℕ, List, length, replicate, slice_set, IfOk, OnOk, IfSome, IfNone, Some, None};
 ghost use Rattle.std.specs.Option.{option_to_list};
 ghost use Rattle.file_order.specs.Search.{row_at};
@@ -7,7 +7,7 @@ use lf_base::Memory;
 use std::alloc::Global;
 use std::marker::Model;
 
-/// A row of places for each place.
+/// A row of numbers for each number up to a count.
 #[derive(Drop)]
 pub(crate) struct Rows {
     rows: Vec<Vec<usize>>,
@@ -40,39 +40,47 @@ impl Rows {
         self.rows.len()
     }
 
-    /// The row of a place.
-    pub fn row(&self, place: usize) -> &[usize]
-        requires { place < length self.now }
-        ensures { result.now ≡ row_at self.now place }
+    /// Adds a row behind the others.
+    pub fn add(&mut self, row: Vec<usize>) -> Result<(), Memory>
+        ensures { OnOk result (self.new ≡ self.old ++ row.items ∷ []) }
     {
-        self.rows[place].as_slice()
-    }
-
-    /// The last in the row of a place.
-    pub fn last(&self, place: usize) -> Option<usize>
-        requires { place < length self.now }
-        ensures some { IfSome result (λ x. (front : List ℕ) × (row_at self.now place ≡ front ++ x ∷ [])) }
-        ensures none { IfNone result (row_at self.now place ≡ []) }
-    {
-        self.row(place).last().copied()
-    }
-
-    /// Puts a place last into the row of a place.
-    pub fn push(&mut self, place: usize, last: usize) -> Result<(), Memory>
-        requires { place < length self.old }
-        ensures { OnOk result (self.new ≡ slice_set self.old place (row_at self.old place ++ last ∷ [])) }
-    {
-        self.rows[place].push(last)?;
+        self.rows.push(row)?;
         Ok(())
     }
 
-    /// Takes the last out of the row of a place.
-    pub fn pop(&mut self, place: usize) -> Option<usize>
-        requires { place < length self.old }
-        ensures row { row_at self.old place ≡ row_at self.new place ++ option_to_list result }
-        ensures others { self.new ≡ slice_set self.old place (row_at self.new place) }
-        ensures none { IfNone result (row_at self.old place ≡ []) }
+    /// The row of a number.
+    pub fn row(&self, index: usize) -> &[usize]
+        requires { index < length self.now }
+        ensures { result.now ≡ row_at self.now index }
     {
-        self.rows[place].pop()
+        self.rows[index].as_slice()
+    }
+
+    /// The last in the row of a number.
+    pub fn last(&self, index: usize) -> Option<usize>
+        requires { index < length self.now }
+        ensures some { IfSome result (λ x. (front : List ℕ) × (row_at self.now index ≡ front ++ x ∷ [])) }
+        ensures none { IfNone result (row_at self.now index ≡ []) }
+    {
+        self.row(index).last().copied()
+    }
+
+    /// Puts a number last into the row of another.
+    pub fn push(&mut self, index: usize, last: usize) -> Result<(), Memory>
+        requires { index < length self.old }
+        ensures { OnOk result (self.new ≡ slice_set self.old index (row_at self.old index ++ last ∷ [])) }
+    {
+        self.rows[index].push(last)?;
+        Ok(())
+    }
+
+    /// Takes the last out of the row of a number.
+    pub fn pop(&mut self, index: usize) -> Option<usize>
+        requires { index < length self.old }
+        ensures row { row_at self.old index ≡ row_at self.new index ++ option_to_list result }
+        ensures others { self.new ≡ slice_set self.old index (row_at self.new index) }
+        ensures none { IfNone result (row_at self.old index ≡ []) }
+    {
+        self.rows[index].pop()
     }
 }

@@ -2,65 +2,101 @@
 ghost use Rattle.std.specs.Prelude.{◌≡◌, ◌↔◌, ◌⊎◌, ◌<◌, ◌≢◌, ℕ, [], ◌∷◌, List, length, slice_set, false, IfOk, OnOk, IfSome, IfNone, count_by};
 ghost use Rattle.std.specs.List.{Contains};
 ghost use Rattle.file_order.specs.Cycles.{IsLeastOf};
-ghost use Rattle.file_order.specs.Search.{row_at, is_open, IsListed, IsOpen, IsTrimmed, IsReleased, IsReady, IsSearchWith, IsSound, Finds, Takes, Ends};
+ghost use Rattle.file_order.specs.Search.{row_at, is_open, IsListed, IsOpen, AreFalling, IsTrimmed, IsTable, IsLeft, IsBlocking, IsReleased, IsSettled, AreSettled, IsReady, IsSearchWith, IsSound, Finds, Takes, Ends};
+ghost use Rattle.file_order.specs.declared.modules.Modules.{Modules};
 
 use crate::candidates::Candidates;
+use crate::modules::Modules;
+use crate::open_places::{has_two_open, opened, other_open};
 use crate::rows::Rows;
 use lf_base::Memory;
 use std::alloc::Global;
 
 /// A search for the least order.
 ///
-/// An open place, which has no place in the order yet, is among the candidates, or it waits for
-/// another open place that must stand before it. So those that may come next are candidates, and the
-/// least candidate that waits for no other comes next.
+/// An open place, which has no place in the order yet, is among the candidates, or it waits for a
+/// module that it uses and that another open place holds. So those that may come next are
+/// candidates, and the least candidate that need not wait comes next.
 #[derive(Drop)]
 pub(crate) struct Search {
     /// Whether each place is open.
     pub marks: Vec<bool>,
-    /// What must stand before each place; what is no longer open may be left out.
-    pub before: Rows,
-    /// The places that wait for each place.
+    /// What is left of who holds and who uses the modules.
+    pub modules: Modules,
+    /// The places that wait for each module.
     pub waiting: Rows,
     pub candidates: Candidates,
     /// The order up to here.
     pub order: Vec<usize>,
 }
 
-/// Whether a place is open.
-pub(crate) fn opened(marks: &[bool], place: usize) -> bool
-    ensures { result ≡ is_open marks.now place }
+/// A module that a place uses and that another open place holds, if there is one.
+fn blocker(modules: &mut Modules, marks: &[bool], place: usize) -> Result<Option<usize>, Memory>
+    requires within { place < length modules.old.uses }
+    requires falling { AreFalling modules.old.holders }
+    requires used { (m : ℕ) → IsListed modules.old.uses m place → m < length modules.old.holders }
+    ensures left { OnOk result (IsLeft marks.now modules.old modules.new) }
+    ensures found { IfOk result (IsBlocking marks.now modules.old modules.new place) }
 {
-    match marks.get(place) {
-        Some(mark) => *mark,
-        None => false,
-    }
-}
-
-/// An open place that must stand before a place, if there is one.
-fn blocker(before: &mut Rows, marks: &[bool], place: usize) -> Option<usize>
-    requires { place < length before.old }
-    ensures trimmed { IsTrimmed marks.now before.old before.new }
-    ensures some { IfSome result (λ a. IsOpen marks.now a × IsListed before.old a place) }
-    ensures none { IfNone result ((a : ℕ) → IsListed before.old a place → is_open marks.now a ≡ false) }
-{
-    while let Some(earlier) = before.last(place) {
-        if opened(marks, earlier) {
-            return Some(earlier);
+    while let Some(module) = modules.uses.last(place) {
+        if other_open(&mut modules.holders, marks, module, place)?.is_some() {
+            return Ok(Some(module));
         }
-        before.pop(place);
+        modules.uses.pop(place);
     }
-    None
+    Ok(None)
 }
 
-/// Makes those who wait for a place candidates.
-fn release(waiting: &mut Rows, candidates: &mut Candidates, place: usize) -> Result<(), Memory>
-    requires { place < length waiting.old }
-    ensures released { OnOk result (IsReleased place waiting.old waiting.new candidates.old candidates.new) }
-    ensures none { OnOk result (row_at waiting.new place ≡ []) }
+/// Makes those who wait for a module candidates.
+fn release(waiting: &mut Rows, candidates: &mut Candidates, module: usize) -> Result<(), Memory>
+    requires { «module» < length waiting.old }
+    ensures released { OnOk result (IsReleased waiting.old waiting.new candidates.old candidates.new) }
+    ensures none { OnOk result (row_at waiting.new «module» ≡ []) }
 {
-    while let Some(later) = waiting.pop(place) {
+    while let Some(later) = waiting.pop(module) {
         candidates.push(later)?;
+    }
+    Ok(())
+}
+
+/// Makes those who wait for a module candidates, unless two open places hold it.
+fn settle(
+    holders: &mut Rows,
+    marks: &[bool],
+    waiting: &mut Rows,
+    candidates: &mut Candidates,
+    module: usize,
+) -> Result<(), Memory>
+    requires within { «module» < length holders.old }
+    requires row { «module» < length waiting.old }
+    requires falling { AreFalling holders.old }
+    ensures trimmed { OnOk result (IsTrimmed marks.now holders.old holders.new) }
+    ensures released { OnOk result (IsReleased waiting.old waiting.new candidates.old candidates.new) }
+    ensures settled { OnOk result (IsSettled marks.now holders.old waiting.new «module») }
+{
+    if has_two_open(holders, marks, module)? {
+        return Ok(());
+    }
+    release(waiting, candidates, module)
+}
+
+/// Makes those candidates who wait for one of the modules, unless two open places hold it.
+fn settle_all(
+    holders: &mut Rows,
+    marks: &[bool],
+    waiting: &mut Rows,
+    candidates: &mut Candidates,
+    modules: &[usize],
+) -> Result<(), Memory>
+    requires within { (m : ℕ) → Contains modules.now m → m < length holders.old }
+    requires rows { length waiting.old ≡ length holders.old }
+    requires falling { AreFalling holders.old }
+    ensures trimmed { OnOk result (IsTrimmed marks.now holders.old holders.new) }
+    ensures released { OnOk result (IsReleased waiting.old waiting.new candidates.old candidates.new) }
+    ensures settled { OnOk result (AreSettled marks.now holders.old waiting.new modules.now) }
+{
+    for module in modules {
+        settle(holders, marks, waiting, candidates, *module)?;
     }
     Ok(())
 }
@@ -71,12 +107,12 @@ impl Search {
         requires { IsSound self.old }
         ensures order { OnOk result (self.new.order.items ≡ self.old.order.items) }
         ensures marks { OnOk result (self.new.marks.items ≡ self.old.marks.items) }
-        ensures found { (all : List (List ℕ)) → Finds all self.old self.new result }
+        ensures found { (all : Modules) → Finds all self.old self.new result }
     {
         while let Some(place) = self.candidates.pop() {
             if opened(&self.marks, place) {
-                match blocker(&mut self.before, &self.marks, place) {
-                    Some(earlier) => self.waiting.push(earlier, place)?,
+                match blocker(&mut self.modules, &self.marks, place)? {
+                    Some(module) => self.waiting.push(module, place)?,
                     None => return Ok(Some(place)),
                 }
             }
@@ -87,19 +123,28 @@ impl Search {
     /// Puts a place last into the order.
     fn take(&mut self, place: usize) -> Result<(), Memory>
         requires within { place < length self.old.marks.items }
-        requires row { place < length self.old.waiting }
+        requires held { place < length self.old.modules.held }
+        requires modules { (m : ℕ) → IsListed self.old.modules.held m place → m < length self.old.modules.holders }
+        requires rows { length self.old.waiting ≡ length self.old.modules.holders }
+        requires falling { AreFalling self.old.modules.holders }
         ensures marks { OnOk result (self.new.marks.items ≡ slice_set self.old.marks.items place false) }
-        ensures taken { (all : List (List ℕ)) → Takes all place self.old self.new result }
+        ensures taken { (all : Modules) → Takes all place self.old self.new result }
     {
         self.marks[place] = false;
         self.order.push(place)?;
-        release(&mut self.waiting, &mut self.candidates, place)
+        settle_all(
+            &mut self.modules.holders,
+            &self.marks,
+            &mut self.waiting,
+            &mut self.candidates,
+            self.modules.held.row(place),
+        )
     }
 
     /// Searches on to the end.
     fn run(&mut self) -> Result<(), Memory>
         requires { IsSound self.old }
-        ensures { (all : List (List ℕ)) → Ends all self.old self.new result }
+        ensures { (all : Modules) → Ends all self.old self.new result }
     {
         while let Some(place) = self.next()? {
             self.take(place)?;
@@ -119,17 +164,17 @@ fn all_places(alloc: Global, count: usize) -> Result<Candidates, Memory>
     Ok(places)
 }
 
-/// Searches the least order, as far as there is one, where the rows list what must stand before each
-/// place.
-pub(crate) fn search_from(alloc: Global, before: Rows) -> Result<Search, Memory>
-    requires { (a b : ℕ) → IsListed before a b → a < length before }
-    ensures { IfOk result (λ s. IsSearchWith before s []) }
+/// Searches the least order, as far as there is one.
+pub(crate) fn search_from(alloc: Global, modules: Modules) -> Result<Search, Memory>
+    requires { IsTable modules }
+    ensures { IfOk result (λ s. IsSearchWith modules s []) }
 {
-    let count = before.len();
+    let count = modules.uses.len();
+    let waiting = Rows::new(alloc, modules.holders.len())?;
     let mut search = Search {
         marks: vec![in alloc; true; count]?,
-        before,
-        waiting: Rows::new(alloc, count)?,
+        modules,
+        waiting,
         candidates: all_places(alloc, count)?,
         order: Vec::new(alloc),
     };

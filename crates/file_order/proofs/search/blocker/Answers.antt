@@ -1,25 +1,44 @@
-use Rattle.std.proofs.Common.{◌∙◌, sym, ap, length, arith}
+use Rattle.std.proofs.Common.{◌∙◌, ◌≢◌, sym, ap, length, refl, arith}
 use Rattle.std.proofs.lemmas.List.{length_push}
-use Rattle.file_order.specs.Search.{row_at}
-use Rattle.file_order.proofs.SearchLemmas.{last_in, popped_last, trimmed_pop, trimmed_all}
+use Rattle.file_order.specs.declared.modules.Modules.{Modules}
+use Rattle.file_order.specs.Search.{row_at, IsOpen, IsListed}
+use Rattle.file_order.proofs.Falling.{last_in, popped_last}
+use Rattle.file_order.proofs.SearchLemmas.{blocked, free_of, left_pop}
 use Rattle.file_order.proofs.search.blocker.Goals as goal
 
-pub returns-then-opened-clause-some : goal.returns-then-opened-clause-some
-returns-then-opened-clause-some c =
+pub other_open-requires-clause-within : goal.other_open-requires-clause-within
+other_open-requires-clause-within c =
+    let l = c.loop-module in
     let last = c.in-Some.ensures.some in
-    (sym c.opened.ensures ∙ c.if-opened.true, c.loop-earlier.invariant.listed c.in-Some.earlier c.args.place (last_in (row_at c.loop-earlier.before c.args.place) last.0 c.in-Some.earlier last.1))
+    let m = c.in-Some.«module» in
+    let less = c.requires.used m (l.invariant.listed m c.args.place (last_in (row_at l.modules.uses c.args.place) last.0 m last.1)) in
+    omega (arith, less, l.invariant.holders.count)
 
-pub loop-earlier-smaller : goal.loop-earlier-smaller
-loop-earlier-smaller c =
+pub returns-then-is_some-clause-found : goal.returns-then-is_some-clause-found
+returns-then-is_some-clause-found c =
+    let l = c.loop-module in
     let last = c.in-Some.ensures.some in
-    let row = popped_last (row_at c.loop-earlier.before c.args.place) (row_at c.pop.new.self c.args.place) last.0 c.in-Some.earlier c.pop.result c.pop.ensures.row c.pop.ensures.none last.1 in
-    omega (arith, ap length row, length_push (row_at c.pop.new.self c.args.place) c.in-Some.earlier)
+    let m = c.in-Some.«module» in
+    blocked c.args.marks.now c.args.modules.now l.modules c.args.place m c.in_ok-other_open.field-0 l.invariant
+    (last_in (row_at l.modules.uses c.args.place) last.0 m last.1) c.in_ok-other_open.ensures.found (sym c.is_some.ensures ∙ c.if-is_some.true)
 
-pub loop-earlier-preserved : goal.loop-earlier-preserved
-loop-earlier-preserved c =
+pub loop-module-smaller : goal.loop-module-smaller
+loop-module-smaller c =
     let last = c.in-Some.ensures.some in
-    let row = popped_last (row_at c.loop-earlier.before c.args.place) (row_at c.pop.new.self c.args.place) last.0 c.in-Some.earlier c.pop.result c.pop.ensures.row c.pop.ensures.none last.1 in
-    trimmed_pop c.args.marks.now c.args.before.now c.loop-earlier.before c.pop.new.self c.args.place c.in-Some.earlier c.loop-earlier.invariant row c.pop.ensures.others (sym c.opened.ensures ∙ c.if-opened.false)
+    let m = c.in-Some.«module» in
+    let row = popped_last (row_at c.loop-module.modules.uses c.args.place) (row_at c.pop.new.self c.args.place) last.0 m c.pop.result c.pop.ensures.row c.pop.ensures.none last.1 in
+    omega (arith, ap length row, length_push (row_at c.pop.new.self c.args.place) m)
 
-pub returns-clause-none : goal.returns-clause-none
-returns-clause-none c = trimmed_all c.args.marks.now c.args.before.now c.loop-earlier.before c.args.place c.loop-earlier.invariant c.in_default.ensures.none
+pub loop-module-preserved : goal.loop-module-preserved
+loop-module-preserved c =
+    let l = c.loop-module in
+    let marks = c.args.marks.now in
+    let place = c.args.place in
+    let last = c.in-Some.ensures.some in
+    let m = c.in-Some.«module» in
+    let new : Modules = record { holders = c.other_open.new.rows; held = l.modules.held; uses = c.pop.new.self } in
+    left_pop marks c.args.modules.now l.modules new place m l.invariant c.in_ok-other_open.ensures.trimmed
+    (free_of (λ a. (a ≢ place) × IsOpen marks a × IsListed l.modules.holders a m) c.in_ok-other_open.field-0 c.in_ok-other_open.ensures.found (sym c.is_some.ensures ∙ c.if-is_some.false))
+    refl
+    (popped_last (row_at l.modules.uses place) (row_at c.pop.new.self place) last.0 m c.pop.result c.pop.ensures.row c.pop.ensures.none last.1)
+    c.pop.ensures.others

@@ -1,9 +1,9 @@
 use Rattle.std.specs.Prelude.{length}
-use Rattle.file_order.specs.Search.{row_at, IsTrimmed}
+use Rattle.file_order.specs.Search.{row_at, IsLeft}
 use Rattle.file_order.proofs.search.blocker.Given as goal
 
-abbrev pub invariant-loop-earlier : goal.invariant-loop-earlier
-invariant-loop-earlier l = IsTrimmed l.marks l.fn.before l.before
+abbrev pub invariant-loop-module : goal.invariant-loop-module
+invariant-loop-module l = IsLeft l.marks l.fn.modules l.modules
 
-abbrev pub decreases-loop-earlier : goal.decreases-loop-earlier
-decreases-loop-earlier l = length (row_at l.before l.place)
+abbrev pub decreases-loop-module : goal.decreases-loop-module
+decreases-loop-module l = length (row_at l.modules.uses l.place)

@@ -1,0 +1,7 @@
+use Rattle.std.specs.Prelude.{◌≡◌, map, take}
+use Rattle.file_order.specs.Modules.{held_by}
+use Rattle.file_order.specs.Numbers.{numbers_in}
+use Rattle.file_order.proofs.numbers.held_rows.Given as goal
+
+abbrev pub invariant-loop-file : goal.invariant-loop-file
+invariant-loop-file l = l.rows ≡ map (λ file. numbers_in l.numbers (held_by file)) (take l.file-index l.files)

@@ -12,6 +12,7 @@ pub mod Grows
 pub mod Lengths
 pub mod Missing
 pub mod Nested
+pub mod NotedNames
 pub mod OnePlace
 pub mod PathTexts
 pub mod Places

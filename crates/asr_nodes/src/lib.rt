@@ -6,6 +6,7 @@ pub mod code;
 mod ids;
 pub mod law;
 mod node;
+mod noted;
 mod print;
 mod sample;
 mod tree;

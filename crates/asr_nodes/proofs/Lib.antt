@@ -24,6 +24,9 @@ pub mod Same
 pub mod SampleLemmas
 pub mod Splicing
 pub mod Symbols
+pub mod SymbolsBelow
 pub mod Texts
 pub mod TreeFolds
+pub mod VisitLists
+pub mod VisitSteps
 pub mod Walks

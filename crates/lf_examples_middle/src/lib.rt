@@ -10,3 +10,5 @@ mod asr;
 mod operations;
 #[cfg(test)]
 mod types;
+#[cfg(test)]
+mod visits;

@@ -1,9 +1,9 @@
 -- No nodes, and the root table with no symbol.
-use Rattle.std.proofs.Common.{◌≡◌, ℕ, List, [], Some, None, is_some, true, sym, ap, subst, true≢false}
-use Rattle.lf_base.specs.declared.id.TableId.{TableId}
+use Rattle.std.proofs.Common.{◌≡◌, List, [], Some, None, is_some, true, sym, ap, subst, true≢false}
 use Rattle.symtab_arena.specs.Scopes.{Scopes, the_root}
 use Rattle.asr_nodes.specs.Keys.{Key, expr, stmt, Node}
 use Rattle.asr_nodes.specs.Nodes.{Nodes, Sound, empty, node_at, node_count}
+use Rattle.asr_nodes.specs.Noted.{Noted}
 use Rattle.asr_nodes.specs.Parts.{parts}
 use Rattle.asr_nodes.specs.Walks.{ends}
 use Rattle.asr_nodes.specs.declared.node.Expr.{Expr}
@@ -25,5 +25,5 @@ empty_sound = record {
   named = λ id it e. absurd (none_is it e);
 }
 
-pub new_sound : (scopes : Scopes Symbol) (exprs : List Expr) (stmts : List Stmt) (noted : List (TableId × List ℕ)) → scopes ≡ the_root → exprs ≡ [] → stmts ≡ [] → noted ≡ [] → Sound (record { scopes = scopes; exprs = exprs; stmts = stmts; noted = noted })
+pub new_sound : (scopes : Scopes Symbol) (exprs : List Expr) (stmts : List Stmt) (noted : Noted) → scopes ≡ the_root → exprs ≡ [] → stmts ≡ [] → noted ≡ [] → Sound (record { scopes = scopes; exprs = exprs; stmts = stmts; noted = noted })
 new_sound scopes exprs stmts noted a b c d = subst (λ (n : Nodes). Sound n) (λ k. record { scopes = sym a k; exprs = sym b k; stmts = sym c k; noted = sym d k }) empty_sound

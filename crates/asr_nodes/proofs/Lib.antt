@@ -12,6 +12,7 @@ pub mod Grows
 pub mod Lengths
 pub mod Missing
 pub mod Nested
+pub mod NotedNames
 pub mod OnePlace
 pub mod PathTexts
 pub mod Places
@@ -23,6 +24,9 @@ pub mod Same
 pub mod SampleLemmas
 pub mod Splicing
 pub mod Symbols
+pub mod SymbolsBelow
 pub mod Texts
 pub mod TreeFolds
+pub mod VisitLists
+pub mod VisitSteps
 pub mod Walks

@@ -41,7 +41,7 @@ module _ (a : Nodes) (links : Linked a.scopes) (h : Sound a) where
   each_same f g [] k = refl
   each_same f g (n ∷ names) k = one_same f g (symbol_at a.scopes n.1) _ _ (λ e q. k zero n refl e q) (each_same f g names (λ i. k (suc i)))
 
-  no_names : (t : TableId) → length a.scopes.tables ≤ t.0 → names_in a.scopes t ≡ []
+  pub no_names : (t : TableId) → length a.scopes.tables ≤ t.0 → names_in a.scopes t ≡ []
   no_names t l = by (table_at a.scopes t) refl
     where
       by : (o : Option Table) → table_at a.scopes t ≡ o → names_in a.scopes t ≡ []
@@ -53,7 +53,7 @@ module _ (a : Nodes) (links : Linked a.scopes) (h : Sound a) where
   nothing_within (suc n) t l = ap (λ names. each_entry a (λ e. symbol_node a (symbols_within a n) e.name e.what) (map (λ e. symbol_at a.scopes e.1) names)) (no_names t l)
 
   -- the table of a symbol comes behind the one in which the symbol stands
-  behind : (t u : TableId) (s : SymId) (e : Entry Symbol) → table_of a.scopes s ≡ Some t → symbol_at a.scopes s ≡ Some e → table_in e.what ≡ Some u → t.0 < u.0
+  pub behind : (t u : TableId) (s : SymId) (e : Entry Symbol) → table_of a.scopes s ≡ Some t → symbol_at a.scopes s ≡ Some e → table_in e.what ≡ Some u → t.0 < u.0
   behind t u s e stands live owns =
       let owned = links.owned s e u live (h.owned s e live ∙ owns) in
       elim (same_or u.0 0) [

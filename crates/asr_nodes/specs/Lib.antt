@@ -13,4 +13,6 @@ pub mod Symbols
 pub mod Tags
 pub mod Text
 pub mod Units
+pub mod Visiting
+pub mod Visits
 pub mod Walks

@@ -24,7 +24,7 @@ pub record Nodes : Type 0 where
   pub scopes : Scopes Symbol
   pub exprs : List Expr
   pub stmts : List Stmt
-  -- the ambiguous names of tables, the last noted last; they are no part of any tree
+  -- the ambiguous names of tables; they are no part of any tree
   pub noted : Noted
 
 module _ (a : Nodes) where

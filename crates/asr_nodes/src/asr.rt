@@ -16,8 +16,10 @@ mod removal;
 mod splice;
 
 use crate::node::{Expr, Stmt, Symbol};
-use lf_base::{ExprId, Memory, Name, StmtId, SymId, TableId};
+use crate::noted::NameSet;
+use lf_base::{ExprId, Memory, StmtId, SymId};
 use std::alloc::Global;
+use std::collections::BTreeMap;
 use std::marker::Model;
 use symtab_arena::Arena;
 
@@ -31,7 +33,8 @@ pub struct Asr {
     arena: Arena<Symbol>,
     exprs: Vec<Expr>,
     stmts: Vec<Stmt>,
-    noted: Vec<(TableId, Name)>,
+    // The ambiguous names of tables, by the tables' numbers.
+    noted: BTreeMap<u32, NameSet>,
 }
 
 impl Model for Asr {
@@ -44,9 +47,9 @@ impl Model for Asr {
 
     ghost coded = { Prim.hlevel (codes, item.the_row.coded, printed.the_row.coded) };
 
-    ghost view = { λ a. record { scopes = a.arena; exprs = a.exprs.items; stmts = a.stmts.items; noted = a.noted.items } };
+    ghost view = { λ a. record { scopes = a.arena; exprs = a.exprs.items; stmts = a.stmts.items; noted = a.noted.entries } };
 
-    ghost invariant = { λ a. Sound (record { scopes = a.arena; exprs = a.exprs.items; stmts = a.stmts.items; noted = a.noted.items }) };
+    ghost invariant = { λ a. Sound (record { scopes = a.arena; exprs = a.exprs.items; stmts = a.stmts.items; noted = a.noted.entries }) };
 }
 
 impl Asr {
@@ -59,7 +62,7 @@ impl Asr {
             arena,
             exprs: Vec::new(alloc),
             stmts: Vec::new(alloc),
-            noted: Vec::new(alloc),
+            noted: BTreeMap::new(alloc),
         }
     }
 

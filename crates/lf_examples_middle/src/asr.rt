@@ -13,19 +13,19 @@ use type_rules::{Dim, Elem, Len, Ty};
 const ROOT: TableId = TableId(0);
 
 /// How many `else if` a chain has.
-const ARMS: u32 = 10_000;
+pub(crate) const ARMS: u32 = 10_000;
 
 /// The line of the statement at the end of a chain.
 const STOP_LINE: u32 = ARMS + 1;
 
 /// How deep an expression is.
-const DEPTH: u32 = 4_000;
+pub(crate) const DEPTH: u32 = 4_000;
 
 fn bytes(alloc: Global, text: &[u8]) -> Result<Items<u8>, Fail> {
     Ok(Items::from_slice(alloc, text)?)
 }
 
-fn one(alloc: Global, id: StmtId) -> Result<Items<StmtId>, Fail>
+pub(crate) fn one(alloc: Global, id: StmtId) -> Result<Items<StmtId>, Fail>
     ensures { IfOk result (λ ids. ids ≡ id ∷ []) }
 {
     let mut ids = Items::new(alloc);
@@ -40,11 +40,11 @@ fn integer(alloc: Global) -> Ty {
     }
 }
 
-fn literal(asr: &mut Asr, value: i64) -> Result<ExprId, Fail> {
+pub(crate) fn literal(asr: &mut Asr, value: i64) -> Result<ExprId, Fail> {
     Ok(asr.build_expr(Expr::IntConst { kind: 4, value })?)
 }
 
-fn sum(asr: &mut Asr, left: ExprId, right: ExprId) -> Result<ExprId, Fail> {
+pub(crate) fn sum(asr: &mut Asr, left: ExprId, right: ExprId) -> Result<ExprId, Fail> {
     there(asr.has_expr(left))?;
     there(asr.has_expr(right))?;
     Ok(asr.build_expr(Expr::Binary {
@@ -54,7 +54,7 @@ fn sum(asr: &mut Asr, left: ExprId, right: ExprId) -> Result<ExprId, Fail> {
     })?)
 }
 
-fn stop(asr: &mut Asr, line: u32, code: ExprId) -> Result<StmtId, Fail> {
+pub(crate) fn stop(asr: &mut Asr, line: u32, code: ExprId) -> Result<StmtId, Fail> {
     there(asr.has_expr(code))?;
     Ok(asr.build_stmt(Stmt::Stop {
         line,
@@ -110,7 +110,7 @@ fn block_there(alloc: Global, asr: &mut Asr, at: StmtId, value: i64) -> Result<(
     Ok(())
 }
 
-fn program(alloc: Global, asr: &mut Asr, stmt: StmtId) -> Result<SymId, Fail> {
+pub(crate) fn program(alloc: Global, asr: &mut Asr, stmt: StmtId) -> Result<SymId, Fail> {
     there(asr.has_stmt(stmt))?;
     there(asr.arena().has_table(ROOT))?;
     let name = Name::new(alloc, b"p")?;
@@ -179,7 +179,7 @@ fn chain_text(alloc: Global, last: &[u8]) -> Result<SureSink, Fail> {
 }
 
 /// A chain of `else if` with this statement at its end.
-fn chain(alloc: Global, asr: &mut Asr, end: StmtId) -> Result<StmtId, Fail> {
+pub(crate) fn chain(alloc: Global, asr: &mut Asr, end: StmtId) -> Result<StmtId, Fail> {
     let mut first = end;
     for place in 0..ARMS {
         first = arm(alloc, asr, ARMS - place, first)?;
@@ -215,7 +215,7 @@ fn long_chain_is_edited_at_its_end(rt: HostRuntime) -> Result<(), Fail> {
 }
 
 /// An expression in so many parentheses.
-fn parenthesised(asr: &mut Asr, inner: ExprId) -> Result<ExprId, Fail> {
+pub(crate) fn parenthesised(asr: &mut Asr, inner: ExprId) -> Result<ExprId, Fail> {
     let mut e = inner;
     for _ in 0..DEPTH {
         there(asr.has_expr(e))?;

@@ -12,3 +12,5 @@ mod operations;
 mod there;
 #[cfg(test)]
 mod types;
+#[cfg(test)]
+mod visits;

@@ -24,11 +24,7 @@ fn listed(alloc: Global, visit: Visit<'_>) -> Result<Vec<NodeId>, Fail> {
     Ok(nodes)
 }
 
-fn nodes_below(
-    alloc: Global,
-    asr: &Asr,
-    stmt: StmtId,
-) -> Result<Vec<NodeId>, Fail> {
+fn nodes_below(alloc: Global, asr: &Asr, stmt: StmtId) -> Result<Vec<NodeId>, Fail> {
     there(asr.has_stmt(stmt))?;
     let stmts = one(alloc, stmt)?;
     listed(alloc, Visit::below(alloc, asr, stmts.as_slice())?)
@@ -97,12 +93,7 @@ fn symbols(alloc: Global, visit: SymbolVisit<'_>) -> Result<Vec<SymId>, Fail> {
 }
 
 /// Declares a derived type, which owns a table.
-fn declare_struct(
-    alloc: Global,
-    asr: &mut Asr,
-    table: TableId,
-    name: &[u8],
-) -> Result<(), Fail> {
+fn declare_struct(alloc: Global, asr: &mut Asr, table: TableId, name: &[u8]) -> Result<(), Fail> {
     let name = Name::new(alloc, name)?;
     there(table.0 != 0)?;
     there(asr.arena().has_table(table))?;

@@ -10,7 +10,7 @@ use Rattle.ast_nodes.specs.declared.declaration.Decl.TheVariants as decl
 use Rattle.ast_nodes.specs.declared.declaration.Entity.{Entity as Declaration}
 use Rattle.ast_nodes.specs.declared.declaration.Vars.{Vars}
 use Rattle.ast_nodes.specs.declared.expression.Expr.{Expr}
-use Rattle.type_rules.specs.Values.{Scalar, Evaluation, Gives, Traps, NoRule}
+use Rattle.type_rules.specs.Values.{Scalar, Evaluation, NoRule, is_kind}
 use Rattle.symtab_arena.specs.Scopes.{symbol_numbers}
 use Rattle.asr_nodes.specs.declared.code.TheConstants.{PUBLIC, SAVED, PARAMETER, INTENT_NOT_SAID}
 use Rattle.asr_nodes.specs.declared.tree.ElemTree.TheVariants as elem
@@ -130,12 +130,18 @@ module _ (unit_name : List ℕ) (given : ℕ) where
   abbrev pub unbuilt_at : ℕ → Scope → Declarations
   unbuilt_at line scope = record { symbols = Err (record { line = line; rule = E202 }); scope = scope }
 
+  -- an integer has kind 4 or 8
+  abbrev pub built_type : Option ScalarType → Option ScalarType
+  built_type None = None
+  built_type (Some (IntegerType kind)) = if is_kind kind then Some (IntegerType kind) else None
+  built_type (Some LogicalType) = Some LogicalType
+
   abbrev pub variables_judged : Scope → Vars → Option ScalarType → Declarations
   variables_judged scope vars None = unbuilt_at vars.line scope
   variables_judged scope vars (Some ty) = entities_judged vars.line scope scope ty (attributes_of vars.attributes) vars.entities
 
   abbrev pub decl_judged : Scope → Decl → Declarations
-  decl_judged scope (decl.Variables vars) = variables_judged scope vars (scalar_type vars.type_spec)
+  decl_judged scope (decl.Variables vars) = variables_judged scope vars (built_type (scalar_type vars.type_spec))
   decl_judged scope (decl.ImplicitNone line) = record { symbols = Ok []; scope = scope }
   decl_judged scope (decl.Use used) = unbuilt_at used.line scope
   decl_judged scope (decl.Access line is_private names) = unbuilt_at line scope

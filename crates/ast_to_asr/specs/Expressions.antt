@@ -11,7 +11,7 @@ use Rattle.ast_nodes.specs.declared.expression.Designator.{Designator}
 use Rattle.ast_nodes.specs.declared.expression.Expr.{Expr}
 use Rattle.ast_nodes.specs.declared.expression.Expr.TheOpen.{Expr-F, RefPart-F, Designator-F}
 use Rattle.ast_nodes.specs.declared.expression.Expr.TheFolds.{fold-Expr, fold-Designator}
-use Rattle.type_rules.specs.Values.{Scalar, Integer, Logical, Characters, Evaluation, Gives, Traps, NoRule, greatest, is_in_kind}
+use Rattle.type_rules.specs.Values.{Scalar, Integer, Logical, Characters, Evaluation, Gives, Traps, NoRule, greatest, is_in_kind, is_kind}
 use Rattle.type_rules.specs.declared.code.TheConstants.{ABS, MIN, MAX}
 use Rattle.asr_nodes.specs.declared.code.TheConstants.{TRUE, FALSE}
 use Rattle.asr_nodes.specs.declared.tree.ExprTree.{ExprTree}
@@ -133,10 +133,10 @@ in_parentheses a = value (e.Paren a.tree) a.ty a.is_constant
 abbrev pub paren_tree : Elab → Elab
 paren_tree = map_right in_parentheses
 
--- a number of kind `kind`, where it fits
+-- a number of kind 4 or 8, where it fits
 abbrev pub literal_tree : ℕ → ℤ → Option ℕ → Elab
 literal_tree kind z writes =
-    if is_in_kind kind z then Ok (record { tree = e.IntConst kind z; ty = IntegerType kind; writes = writes; variable = None; is_constant = true }) else Err E403
+    if is_kind kind && is_in_kind kind z then Ok (record { tree = e.IntConst kind z; ty = IntegerType kind; writes = writes; variable = None; is_constant = true }) else Err E403
 
 -- an integer argument with its kind
 pub record Argument : Type 0 where

@@ -1,8 +1,10 @@
 #!/bin/sh
-# Prints the time and the greatest memory of `order` over files of one module each, in a chain that is given backwards: for
-# 2,000 and for 20,000 files, with the ratio of the times, which is about 10 where all grows with the size; beside the time
-# of `ast` over the same files, and over ten files that hold all their modules, with its output dropped; and the bytes of
-# memory for a byte of source. Then the same for files that all hold one module beside as many that use it. It is no part of
+# Prints the time and the greatest memory of `order` over files of one module each, in three shapes: a chain that is given
+# backwards; a crowd of files that all hold one module beside as many that use it; and a knot of files that all hold and use
+# one module, of which there is no order, but a cycle to be named. For each shape it takes 2,000 and 20,000 files, prints the
+# ratio of the times, which is about 10 where all grows with the size, and the bytes of memory for a byte of source, and says
+# whether they are within the bounds below; beside them the time of `ast` over the same files, and over ten files that hold
+# all their modules, with its output dropped. It ends with 1 where a bound is passed or an answer is wrong. It is no part of
 # the gate.
 set -eu
 . "$(dirname "$0")/setup.sh"
@@ -18,6 +20,10 @@ SMALL = 2_000
 LARGE = 20_000
 RUNS = 3
 EACH = 20
+MOST_RATIO = 13
+MOST_BYTES = 60
+ORDERED = 0
+CYCLE = 8
 BODY = "".join(f"  integer, parameter :: c{i} = {i} + 2 * {i}\n" for i in range(12))
 
 
@@ -36,11 +42,32 @@ def crowd(count):
         yield f"u{i}.f90", f"module u{i}\n  use m\n{BODY}end module u{i}\n"
 
 
-def shortest(program, words):
+def knot(count):
+    """Each holds and uses one module."""
+    for i in range(count):
+        yield f"k{i}.f90", f"module m\n  use m\n{BODY}end module m\n"
+
+
+def shortest(program, words, wanted=ORDERED):
     took = [timed([program, *words]) for _ in range(RUNS)]
-    if any(status != 0 for status, _ in took):
-        sys.exit(f"order: {words[0]} ended with a status that is not 0")
+    if any(status != wanted for status, _ in took):
+        sys.exit(f"order: {words[0]} ended with a status that is not {wanted}")
     return min(seconds for _, seconds in took)
+
+
+def judged(shape, what, value, most):
+    """Whether a value is within its bound, which is printed."""
+    within = value <= most
+    print(f"{shape.__name__}: {what} {value:.1f}, {'within' if within else 'OVER'} {most}")
+    return within
+
+
+def is_right(shape, names, answer):
+    """Whether the answer is the only right one of its shape."""
+    if shape is knot:
+        return answer.returncode == CYCLE and f"cycle {names[0]} {names[1]}" in answer.stderr.decode()
+    order = list(reversed(names)) if shape is chain else names
+    return answer.returncode == ORDERED and answer.stdout == "".join(f"{name}\n" for name in order).encode()
 
 
 def written(files):
@@ -54,22 +81,26 @@ def written(files):
 
 
 program = sys.argv[1]
-for shape in (chain, crowd):
+good = True
+for shape in (chain, crowd, knot):
     times = {}
+    wanted = CYCLE if shape is knot else ORDERED
     for count in (SMALL, LARGE):
         names, size = written(shape(count))
-        times[count] = shortest(program, ["order", *names])
+        times[count] = shortest(program, ["order", *names], wanted)
         memory = greatest_memory([program, "order", *names])
         print(f"{shape.__name__} of {count:6} files, {size:9} bytes: {times[count]:7.3f} s, {memory / size:5.1f} bytes a byte of source")
-    print(f"{shape.__name__}: ten times the files take {times[LARGE] / times[SMALL]:.1f} times the time")
+    good &= judged(shape, "ten times the files, times the time:", times[LARGE] / times[SMALL], MOST_RATIO)
+    good &= judged(shape, "bytes a byte of source:", memory / size, MOST_BYTES)
     with open("all.f90", "w") as file:
         file.writelines(text for _, text in shape(SMALL))
     joined = shortest(program, ["ast", "all.f90"]) * (LARGE // SMALL)
     each = sum(shortest(program, ["ast", name]) for name in names[::EACH]) * EACH
     print(f"{shape.__name__}: {times[LARGE] / joined:.2f} times the time of `ast` of ten files with all modules, "
           f"{times[LARGE] / each:.2f} times that of `ast` of each file")
-    if shape is chain:
-        wanted = "".join(f"{name}\n" for name in reversed(names)).encode()
-        if subprocess.run([program, "order", *names], capture_output=True).stdout != wanted:
-            sys.exit("order: the order of the chain is wrong")
+    answer = subprocess.run([program, "order", *names], capture_output=True)
+    if not is_right(shape, names, answer):
+        print(f"order: the answer for the {shape.__name__} is wrong: status {answer.returncode}, {answer.stderr.decode()!r}")
+        good = False
+sys.exit(0 if good else 1)
 PYTHON

@@ -1,0 +1,9 @@
+pub mod Files
+pub mod Helpers
+pub mod Lowering
+pub mod Manners
+pub mod Names
+pub mod Scalar
+pub mod SmallUnits
+pub mod Statements
+pub mod Values

@@ -356,7 +356,14 @@ module _ (unit_name : List ℕ) (declared : List Declared) (es : Entities) (n : 
         (λ x y q. subst (λ z. PartOf (tp (roll-RefPart z)) (fp (roll-RefPart z))) q (both_parts (map-RefPart SA SB SC Expr RefPart Designator (λ s. s.0) (λ s. s.0) (λ s. s.0) y) (at_part y)))
         (λ x y q. subst (λ z. C (td (roll-Designator z)) (fd (roll-Designator z))) q (both_designators (map-Designator SA SB SC Expr RefPart Designator (λ s. s.0) (λ s. s.0) (λ s. s.0) y) (at_designator y)))
 
--- what is claimed, in the words of the law
+    pub designator_agrees : (x : Designator) → C (td x) (fd x)
+    designator_agrees =
+        ind-Designator (λ x. C (te x) (fe x)) (λ x. PartOf (tp x) (fp x)) (λ x. C (td x) (fd x))
+        (λ x y q. subst (λ z. C (te (roll-Expr z)) (fe (roll-Expr z))) q (both_sides (map-Expr SA SB SC Expr RefPart Designator (λ s. s.0) (λ s. s.0) (λ s. s.0) y) (at_expr y)))
+        (λ x y q. subst (λ z. PartOf (tp (roll-RefPart z)) (fp (roll-RefPart z))) q (both_parts (map-RefPart SA SB SC Expr RefPart Designator (λ s. s.0) (λ s. s.0) (λ s. s.0) y) (at_part y)))
+        (λ x y q. subst (λ z. C (td (roll-Designator z)) (fd (roll-Designator z))) q (both_designators (map-Designator SA SB SC Expr RefPart Designator (λ s. s.0) (λ s. s.0) (λ s. s.0) y) (at_designator y)))
+
+-- what is claimed, in the words of the laws
 goes_on : (unit_name : List ℕ) (declared : List Declared) (s : State) (ty : ScalarType) (x : Stretch State Rattle.type_rules.specs.Store.Value) → Sound (W unit_name declared) s (Is ty) x → GoesOn s ty x
 goes_on unit_name declared s ty (Going value t sofar) h = h
 goes_on unit_name declared s ty (Stopped (Ended sofar status location)) h = tt

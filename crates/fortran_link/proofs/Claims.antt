@@ -21,7 +21,7 @@ use Rattle.asr_semantics.specs.Meaning.{Calls, expression}
 use Rattle.asr_semantics.proofs.Nodes.{expression-IntConst, expression-LogConst, expression-Var, expression-Paren}
 use Rattle.fortran_semantics.specs.Constants.{Constant, constant_of, kind_of, joined_kind, literal_kind, literal_value, number_of, kind_written, huge_of as huge_value}
 use Rattle.fortran_semantics.specs.Declared.{ScalarType, IntegerType, LogicalType, Declared, Declaration, Variable, Parameter, Other, declared_as}
-use Rattle.fortran_semantics.specs.Meaning.{Meant, Known, known_in, no_becoming, only_value, given_scalar, unary_value, binary_value, converted, int_of, huge_one, name_meant, constant_meant}
+use Rattle.fortran_semantics.specs.Meaning.{Meant, Known, known_in, becoming, no_becoming, only_value, given_scalar, unary_value, binary_value, converted, int_of, huge_one, name_meant, constant_meant}
 use Rattle.lf_base.specs.Acts.{wrong}
 use Rattle.lf_base.specs.Outcome.{Stuck}
 use Rattle.ast_to_asr.specs.Judged.{both, and_then, right, map_right}
@@ -42,23 +42,32 @@ module _ (unit_name : List ℕ) (declared : List Declared) (es : Entities) (n : 
   abbrev pub A : ExprTree → Location → M Value
   A x here = (expression es n inner x).value here
 
+  -- what is assigned to: a variable of the type, by its binding
+  pub record Target (a : Elaborated) (m : Meant) : Type 0 where
+    pub place : (here : Location) → Equal V Always (IsBound a.ty) m.place ((expression es n inner a.tree).place here)
+    pub becomes : (v : Value) → m.becomes v ≡ becoming a.ty v
+
   pub record Claim (a : Elaborated) (m : Meant) : Type 0 where
     pub does : (here : Location) → Equal V Always (Is a.ty) (m.value here) (A a.tree here)
     pub kind : KindIs a.ty m.kind
     pub kinded : IsKinded a.ty
     pub writes : m.writes ≡ a.writes
     pub written : (k : ℕ) → a.writes ≡ Some k → is_kind k ≡ true
+    pub target : (name : List ℕ) → a.variable ≡ Some name → Target a m
 
   abbrev pub ClaimOf : Elab → Meant → Type 0
   ClaimOf (Ok a) m = Claim a m
   ClaimOf (Err rule) m = Unit {0}
+
+  no_target : (a : Elaborated) (m : Meant) → a.variable ≡ None → (name : List ℕ) → a.variable ≡ Some name → Target a m
+  no_target a m q name r = absurd (cc)
 
   pub none_written : (k : ℕ) → None ≡ Some k → is_kind k ≡ true
   none_written k q = absurd (cc)
 
   -- a value that designates nothing and is no literal
   pub only_claim : (tree : ExprTree) (ty : ScalarType) (is_constant : Bool) (act : Location → M Value) (kind : Option ℕ) → ((here : Location) → Equal V Always (Is ty) (act here) (A tree here)) → KindIs ty kind → IsKinded ty → Claim (value tree ty is_constant) (only_value act kind)
-  only_claim tree ty is_constant act kind does k f = record { does = does; kind = k; kinded = f; writes = refl; written = none_written }
+  only_claim tree ty is_constant act kind does k f = record { does = does; kind = k; kinded = f; writes = refl; written = none_written; target = no_target (value tree ty is_constant) (only_value act kind) refl }
 
   -- literals
   number_does : (k : ℕ) (z : ℤ) (here : Location) → is_kind k ≡ true → is_in_kind k z ≡ true → Equal V Always (Is (IntegerType k)) (given_scalar (if is_in_kind k z then Gives (Integer k z) else NoRule) here) (A (e.IntConst k z) here)
@@ -84,6 +93,12 @@ module _ (unit_name : List ℕ) (declared : List Declared) (es : Entities) (n : 
       (bind_equal V Always (IsBound ty) (Is ty) (variable (unit_name ∷ name ∷ [])) (variable (unit_name ∷ name ∷ [])) fetch fetch
       (variable_equal unit_name declared Always name ty init q)
       (λ b s i p. fetch_equal unit_name declared (λ u. V.later s u × IsBound ty b u) b ty (λ u j r. r.1))))
+
+  variable_place : (name : List ℕ) (ty : ScalarType) (init : Option Rattle.ast_nodes.specs.declared.expression.Expr.Expr) (here : Location) → declared_as declared name ≡ Some (Variable ty init) → target es (unit_name ∷ name ∷ []) ≡ unit_name ∷ name ∷ [] → Equal V Always (IsBound ty) (variable (unit_name ∷ name ∷ [])) ((expression es n inner (e.Var (unit_name ∷ name ∷ []))).place here)
+  variable_place name ty init here q t =
+      subst (λ m. Equal V Always (IsBound ty) (variable (unit_name ∷ name ∷ [])) (m.place here)) (sym (expression-Var es n inner (unit_name ∷ name ∷ [])))
+      (subst (λ p. Equal V Always (IsBound ty) (variable (unit_name ∷ name ∷ [])) (variable p)) (sym t)
+      (variable_equal unit_name declared Always name ty init q))
 
   -- a parenthesis, a sign or `.not.`, and an operation
   pub paren_claim : (a : Elab) (m : Meant) → ClaimOf a m → ClaimOf (paren_tree a) (only_value (λ here. m.value here) m.kind)
@@ -186,6 +201,7 @@ module _ (unit_name : List ℕ) (declared : List Declared) (es : Entities) (n : 
           kinded = h.1;
           writes = refl;
           written = none_written;
+          target = λ other r. record { place = λ here. variable_place name ty init here (q ∙ ap (λ t. Some (Variable t init)) h.0) h.2; becomes = λ v. refl };
         })
     name_by name (Some (names.NamedConstant ty v)) (Some (Parameter ty' value)) (Some c) q r h =
         subst (λ o. Claim (Rattle.ast_to_asr.specs.Expressions.value (constant_tree ty v) ty true) (constant_meant unit_name declared known o)) (sym r)
@@ -228,6 +244,7 @@ module _ (unit_name : List ℕ) (declared : List Declared) (es : Entities) (n : 
         kinded = b.0;
         writes = refl;
         written = written_kinds digits suffix;
+        target = λ name r. absurd (cc);
       }
   literal_by digits suffix false q = tt
 

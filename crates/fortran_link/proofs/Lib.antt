@@ -1,8 +1,10 @@
 mod Agreement
+mod Assignments
 mod Claims
 mod Expressions
 mod Functions
 mod Operands
 mod Operators
+mod Statements
 mod States
 mod Values

@@ -2,18 +2,22 @@
 use Rattle.std.specs.Prelude.{◌≡◌, ℕ, true, List, [], ◌∷◌, Option, Some, None, Ok, Err}
 use Rattle.lf_base.specs.Outcome.{Location, Written, Ended, Cut, Wrong}
 use Rattle.lf_base.specs.Acts.{Stretch, Going, Stopped}
+use Rattle.ast_nodes.specs.declared.expression.Designator.{Designator}
 use Rattle.ast_nodes.specs.declared.expression.Expr.{Expr}
 use Rattle.type_rules.specs.Store.{Value}
 use Rattle.asr_semantics.specs.Machine.{State, M}
-use Rattle.asr_semantics.specs.Meaning.{Calls, expression}
+use Rattle.asr_nodes.specs.declared.tree.StmtTree.{StmtTree}
+use Rattle.asr_semantics.specs.Meaning.{Signal, Doing, Calls, then_next, at, expression, statement}
 use Rattle.type_rules.specs.Values.{Scalar, Evaluation, Gives, Traps, NoRule, is_kind}
 use Rattle.asr_semantics.specs.Entities.{Entities, target}
 use Rattle.fortran_semantics.specs.Constants.{Constant, constant_of, kind_of}
 use Rattle.fortran_semantics.specs.Declared.{ScalarType, IntegerType, LogicalType, Declared, Declaration, Variable, Parameter, Other, declared_as}
-use Rattle.fortran_semantics.specs.Meaning.{Meant, Known, known_in, expression as meant}
+use Rattle.fortran_semantics.specs.Meaning.{Meant, Known, known_in, assigns, designated, expression as meant}
 use Rattle.ast_to_asr.specs.Scope as names
 use Rattle.ast_to_asr.specs.Scope.{Scope, entity_of}
-use Rattle.ast_to_asr.specs.Expressions.{Elab, elab_expr}
+use Rattle.ast_to_asr.specs.Judged.{Judged}
+use Rattle.ast_to_asr.specs.Expressions.{Elab, elab_expr, elab_designator}
+use Rattle.ast_to_asr.specs.Statements.{assign_tree}
 use Rattle.fortran_link.specs.Typed.{IsTyped, HasType, Typed, Later}
 
 abbrev pub IsKinded : ScalarType → Type 0
@@ -61,3 +65,23 @@ Alike unit_name declared es n inner (Err rule) m = Unit {0}
 abbrev pub ExpressionsAgree : Type 0
 ExpressionsAgree =
     (unit_name : List ℕ) (scope : Scope) (declared : List Declared) (known : Known) (es : Entities) → Agree es unit_name scope declared known → (n : ℕ) (inner : Calls) (x : Expr) → Alike unit_name declared es n inner (elab_expr unit_name scope x) (meant unit_name declared known x)
+
+-- The same of a statement: it goes on in a later state, leaves what is around it, or ends.
+abbrev pub Continues : State → Stretch State (Option Signal) → Type 0
+Continues s (Going signal t sofar) = Later s t
+Continues s (Stopped (Ended sofar status location)) = Unit {0}
+Continues s (Stopped (Cut sofar)) = Unit {0}
+Continues s (Stopped (Wrong fault)) = ⊥
+
+abbrev pub ExecuteTheSame : List ℕ → List Declared → Doing → Doing → Type 0
+ExecuteTheSame unit_name declared act act' = (s : State) → Typed unit_name declared s → (sofar : Written) → Continues s (act s sofar) × (act' s sofar ≡ act s sofar)
+
+abbrev pub StatementAlike : List ℕ → List Declared → Entities → ℕ → Calls → Judged StmtTree → (List ℕ → Doing) → Type 0
+StatementAlike unit_name declared es n inner (Ok tree) does = (source : List ℕ) → ExecuteTheSame unit_name declared (does source) (statement es n inner tree source)
+StatementAlike unit_name declared es n inner (Err rule) does = Unit {0}
+
+-- each assignment at a line, where loops around it step these variables
+abbrev pub AssignmentsAgree : Type 0
+AssignmentsAgree =
+    (unit_name : List ℕ) (scope : Scope) (declared : List Declared) (known : Known) (es : Entities) → Agree es unit_name scope declared known → (n : ℕ) (inner : Calls) (line : ℕ) (active : List (List ℕ)) (target : Designator) (x : Expr)
+    → StatementAlike unit_name declared es n inner (assign_tree line active (elab_designator unit_name scope target) (elab_expr unit_name scope x)) (λ source. then_next (assigns (at source line) (designated unit_name declared known target) (meant unit_name declared known x)))

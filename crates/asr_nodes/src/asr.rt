@@ -90,6 +90,11 @@ impl Asr {
         let _ = &self.exprs;
     }
 
+    /// The allocator that the tree was made with, for what is built beside it.
+    pub fn allocator(&self) -> Global {
+        self.alloc
+    }
+
     /// The symbols in their tables.
     pub fn arena(&self) -> &Arena<Symbol>
         ensures { result.now ≡ self.now.scopes }

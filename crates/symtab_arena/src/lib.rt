@@ -11,3 +11,4 @@ mod table;
 
 pub use arena::Arena;
 pub use fault::ArenaFault;
+pub use key::NameKey;

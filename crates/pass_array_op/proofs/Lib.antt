@@ -1,0 +1,7 @@
+pub mod Becoming
+pub mod Edits
+pub mod Loops
+pub mod Places
+pub mod Records
+pub mod Small
+pub mod Trees

@@ -1,0 +1,5 @@
+pub mod Bodies
+pub mod Drawing
+pub mod Examples
+pub mod Lowering
+pub mod Prints

@@ -1,9 +1,15 @@
 pub mod Files
 pub mod Helpers
 pub mod Lowering
+pub mod Lowered
 pub mod Manners
 pub mod Names
+pub mod Places
 pub mod Scalar
 pub mod SmallUnits
 pub mod Statements
+pub mod UnitTrees
+pub mod Steps
+pub mod Units
 pub mod Values
+pub mod Writing

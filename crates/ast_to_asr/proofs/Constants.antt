@@ -3,7 +3,6 @@ use Rattle.std.proofs.Common.{◌≡◌, ℕ, List, map, Option, ap}
 use Rattle.ast_nodes.specs.declared.expression.Designator.{Designator}
 use Rattle.ast_nodes.specs.declared.expression.Expr.{Expr, Expr-F}
 use Rattle.ast_nodes.specs.declared.expression.Expr.TheVariants.{Int, Log, Ref, Unary, Binary, Paren}
-use Rattle.type_rules.specs.Values.{Scalar, Evaluation}
 use Rattle.fortran_semantics.specs.Constants.{Constant, constant_meaning, constant_layer, parts_constant}
 use Rattle.fortran_semantics.proofs.Nodes.{constant_part_of, constant-Int, constant-Log, constant-Unary, constant-Binary, constant-Paren, constant-Ref, constant-Part, constant-Group}
 

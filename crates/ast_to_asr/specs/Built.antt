@@ -13,7 +13,6 @@ use Rattle.ast_nodes.specs.declared.declaration.Entity.{Entity}
 use Rattle.ast_nodes.specs.declared.declaration.TypeSpec.{TypeSpec}
 use Rattle.ast_nodes.specs.declared.declaration.TypeSpec.TheVariants as spec
 use Rattle.ast_nodes.specs.declared.declaration.Vars.{Vars}
-use Rattle.ast_nodes.specs.declared.expression.Designator.{Designator}
 use Rattle.ast_nodes.specs.declared.expression.Expr.{Expr}
 use Rattle.ast_nodes.specs.declared.expression.Expr.TheOpen.{Expr-F, RefPart-F, Designator-F}
 use Rattle.ast_nodes.specs.declared.expression.Expr.TheFolds.{fold-Expr}

@@ -19,7 +19,7 @@ use Rattle.asr_nodes.specs.declared.tree.SymbolTree.{SymbolTree}
 use Rattle.asr_nodes.specs.declared.tree.SymbolTree.TheVariants as symbol
 use Rattle.asr_nodes.specs.declared.tree.TypeTree.{TypeTree}
 use Rattle.fortran_semantics.specs.Declared.{ScalarType, IntegerType, LogicalType, scalar_type}
-use Rattle.ast_to_asr.specs.Judged.{Judged, right, both, and_then, map_right, Broken, Placed, at_line, both_placed, map_placed}
+use Rattle.ast_to_asr.specs.Judged.{Judged, both, map_right, Placed, at_line, both_placed, map_placed}
 use Rattle.ast_to_asr.specs.Scope.{Entity, Variable, NamedConstant, Scope, entity_of, added}
 use Rattle.ast_to_asr.specs.Expressions.{constant_tree}
 use Rattle.ast_to_asr.specs.Demanded.{initial_value}

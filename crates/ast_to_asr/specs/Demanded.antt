@@ -1,6 +1,6 @@
 -- Constants that a place demands (ISO/IEC 1539-1:2018, 10.1.12): the initial value of a variable, the value of a named constant
 -- and a stop code are computed by the compiler.
-use Rattle.std.specs.Prelude.{ℕ, List, Bool, true, false, if◌then◌else◌, Option, Some, None, Ok, Err}
+use Rattle.std.specs.Prelude.{ℕ, List, Bool, true, false, if◌then◌else◌, Ok, Err}
 use Rattle.lf_base.specs.declared.rule.Rule.TheVariants.{E401, E411}
 use Rattle.ast_nodes.specs.declared.expression.Expr.{Expr}
 use Rattle.type_rules.specs.Values as values
@@ -10,7 +10,7 @@ use Rattle.fortran_semantics.specs.Constants.{of_type, constant_meaning}
 use Rattle.fortran_semantics.specs.Declared.{ScalarType, IntegerType, LogicalType}
 use Rattle.ast_to_asr.specs.Judged.{Judged, and_then}
 use Rattle.ast_to_asr.specs.Scope.{Scope, constant_in}
-use Rattle.ast_to_asr.specs.Expressions.{Elaborated, Elab, elab_expr}
+use Rattle.ast_to_asr.specs.Expressions.{Elaborated, elab_expr}
 
 -- the value, or that it is not known, since it stands for a constant whose declaration breaks a rule
 abbrev pub computed : Evaluation Scalar → Judged (Evaluation Scalar)

@@ -4,7 +4,6 @@
 use Rattle.std.specs.Prelude.{ℕ, nat_le, if◌then◌else◌, List, [], ◌∷◌, Ok, Err}
 use Rattle.lf_base.specs.declared.rule.Rule.TheVariants.{E202, E416}
 use Rattle.symtab_arena.specs.Scopes.{symbol_numbers}
-use Rattle.ast_nodes.specs.declared.declaration.Decl.{Decl}
 use Rattle.ast_nodes.specs.declared.file.File.{File}
 use Rattle.ast_nodes.specs.declared.file.Unit.{Unit as ProgramUnit}
 use Rattle.ast_nodes.specs.declared.file.Unit.TheVariants as unit

@@ -1,7 +1,7 @@
 -- What a part of a source is by the rules of names and types (ISO/IEC 1539-1:2018, clauses 7 to 11): what it stands for, or,
 -- where it breaks rules, the one of the least number. A part that breaks a rule has no type, so it breaks no further rule of
 -- what it stands in.
-use Rattle.std.specs.Prelude.{ℕ, Bool, true, false, ◌==◌, nat_lt, nat_le, if◌then◌else◌, List, [], ◌∷◌, Option, Some, None, Result, Ok, Err}
+use Rattle.std.specs.Prelude.{ℕ, ◌==◌, nat_lt, if◌then◌else◌, List, [], ◌∷◌, Option, Some, None, Result, Ok, Err}
 use Rattle.lf_base.specs.Rules.{number_of}
 use Rattle.lf_base.specs.declared.rule.Rule.{Rule}
 

@@ -1,10 +1,17 @@
+pub mod Building
 pub mod Built
 pub mod Declarations
 pub mod Demanded
 pub mod Elab
 pub mod Expressions
+pub mod Facts
 pub mod Judged
+pub mod Known
+pub mod Leaves
+pub mod Making
+pub mod Numbers
 pub mod Scope
 pub mod SmallFaults
 pub mod SmallTrees
+pub mod Sources
 pub mod Statements

@@ -1,6 +1,6 @@
 -- What names stand for in a main program (ISO/IEC 1539-1:2018, 19.3): its variables and its named constants, in the order of
 -- their declarations. A name that is declared twice keeps its first entity.
-use Rattle.std.specs.Prelude.{ℕ, Bool, true, false, if◌then◌else◌, List, [], ◌∷◌, ◌++◌, Option, Some, None}
+use Rattle.std.specs.Prelude.{ℕ, if◌then◌else◌, List, [], ◌∷◌, ◌++◌, Option, Some, None}
 use Rattle.std.specs.Str.{bytes_eq}
 use Rattle.type_rules.specs.Values.{Scalar, Evaluation, NoRule}
 use Rattle.fortran_semantics.specs.Constants.{Constant, constant_of, kind_of}

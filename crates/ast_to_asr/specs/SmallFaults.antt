@@ -1,7 +1,7 @@
 -- Small sources that break one rule each, or just do not, by which ISO/IEC 1539-1:2018 is read.
 use Rattle.std.specs.Prelude.{◌≡◌, ℕ, true, List, [], ◌∷◌, codes, Option, Some, None, Err}
 use Rattle.std.specs.Result.{is_ok}
-use Rattle.lf_base.specs.declared.operator.TheConstants.{ADD, DIVIDE, EQ, AND}
+use Rattle.lf_base.specs.declared.operator.TheConstants.{ADD, DIVIDE}
 use Rattle.lf_base.specs.declared.rule.Rule.{Rule}
 use Rattle.ast_nodes.specs.declared.declaration.Attribute.{Attribute}
 use Rattle.ast_nodes.specs.declared.declaration.Attribute.TheVariants as attribute
@@ -10,12 +10,12 @@ use Rattle.ast_nodes.specs.declared.declaration.Decl.TheVariants.{Variables}
 use Rattle.ast_nodes.specs.declared.declaration.TypeSpec.{TypeSpec}
 use Rattle.ast_nodes.specs.declared.declaration.TypeSpec.TheVariants.{Integer, Logical}
 use Rattle.ast_nodes.specs.declared.expression.Expr.{Expr}
-use Rattle.ast_nodes.specs.declared.expression.Expr.TheVariants.{Int, Log, Binary}
+use Rattle.ast_nodes.specs.declared.expression.Expr.TheVariants.{Log, Binary}
 use Rattle.ast_nodes.specs.declared.file.File.{File}
 use Rattle.ast_nodes.specs.declared.statement.Statement.{Statement}
-use Rattle.ast_nodes.specs.declared.statement.Statement.TheVariants.{Assign, If, Do, While, Print, Stop, Exit, Cycle}
-use Rattle.asr_nodes.specs.declared.code.TheConstants.{TRUE, FALSE}
-use Rattle.fortran_semantics.specs.SmallSources.{number, designator, named, call, program, print, only_if}
+use Rattle.ast_nodes.specs.declared.statement.Statement.TheVariants.{Assign, Do, Exit}
+use Rattle.asr_nodes.specs.declared.code.TheConstants.{TRUE}
+use Rattle.fortran_semantics.specs.SmallSources.{number, designator, named, call, program, print}
 use Rattle.ast_to_asr.specs.Elab.{elab_file}
 
 -- of the rules that the source breaks this one is told, at this line

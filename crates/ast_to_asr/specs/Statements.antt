@@ -1,6 +1,6 @@
 -- Statements by their rules (ISO/IEC 1539-1:2018, 10.2, 11.1, 11.4 and 12.6): the trees of each, or of the rules that it and
 -- what stands in it break the first, by line and then by number.
-use Rattle.std.specs.Prelude.{ℕ, suc, ◌+◌, ◌==◌, pos, Bool, true, false, ◌||◌, ◌&&◌, if◌then◌else◌, List, [], ◌∷◌, ◌++◌, map, Option, Some, None, Ok, Err}
+use Rattle.std.specs.Prelude.{ℕ, suc, ◌+◌, ◌==◌, pos, Bool, true, false, ◌&&◌, if◌then◌else◌, List, [], ◌∷◌, ◌++◌, map, Option, Some, None, Ok, Err}
 use Rattle.std.specs.List.{list_any}
 use Rattle.std.specs.Str.{bytes_eq}
 use Rattle.lf_base.specs.declared.rule.Rule.TheVariants.{E202, E401, E402, E409, E410, E417}
@@ -17,7 +17,7 @@ use Rattle.asr_nodes.specs.declared.tree.StmtTree.{StmtTree}
 use Rattle.asr_nodes.specs.declared.tree.StmtTree.TheVariants as s
 use Rattle.fortran_semantics.specs.Declared.{ScalarType, IntegerType, LogicalType}
 use Rattle.fortran_semantics.specs.Meaning.{Loops, loop_of, within_loop}
-use Rattle.ast_to_asr.specs.Judged.{Judged, right, both, and_then, map_right, all, Broken, Placed, at_line, both_placed, map_placed}
+use Rattle.ast_to_asr.specs.Judged.{Judged, right, both, and_then, map_right, all, Placed, at_line, both_placed, map_placed}
 use Rattle.ast_to_asr.specs.Scope.{Scope, entity_of}
 use Rattle.ast_to_asr.specs.Expressions.{Elaborated, Elab, in_kind, constant_tree, name_tree, elab_expr, elab_designator}
 use Rattle.ast_to_asr.specs.Demanded.{is_integer, stop_value}

@@ -1,4 +1,4 @@
-//! The C file of a typed tree (ISO/IEC 9899:1999), by definition.
+//! The C file of a typed tree (ISO/IEC 9899:1999): its definition, and the lines of values and of first values.
 #![tactic(auto)]
 
 mod cexpr;

@@ -1,3 +1,4 @@
+pub mod Apart
 pub mod Becoming
 pub mod Edits
 pub mod Loops

@@ -19,6 +19,7 @@ use Rattle.asr_nodes.proofs.Walks.{all_weaker}
 use Rattle.pass_array_op.specs.Bodies.{Differ, HasNoneTwice, Records, Midway, LowersBody}
 use Rattle.pass_array_op.specs.Drawing.{some}
 use Rattle.pass_array_op.specs.Prints.{values_put, number_of, prints, puts, record_nodes, with_record, Keeps, IsRecord, IsLowered}
+use Rattle.pass_array_op.proofs.Apart.{kept_trees}
 use Rattle.pass_array_op.proofs.Edits.{keeps, others, is_record, is_with_record, stays_alone, stays_placed}
 use Rattle.pass_array_op.proofs.Places.{body_differs, body_placed}
 use Rattle.pass_array_op.proofs.Records.{values_are}
@@ -52,6 +53,7 @@ same_nodes a (id ∷ ids) = (refl, same_nodes a ids)
 pub begins : (old : Nodes) (all : List StmtId) (number : ℕ) → AllByRecursion (IsLowered old) all → Differ all → Midway old old all all number number
 begins old all number low differ = record {
   rest = λ key x e v. e;
+  stays = λ new k. k;
   waits = same_nodes old all;
   lowered = low;
   differ = differ;
@@ -63,6 +65,7 @@ begins old all number low differ = record {
 pub ends_with : (old now : Nodes) (all : List StmtId) (number next : ℕ) → Midway old now all [] number next → Records old now all number
 ends_with old now all number next m = record {
   rest = m.rest;
+  stays = m.stays now (λ key x o e. e);
   records = m.records now (λ key x e v. e) tt;
   scopes = m.scopes;
   alone = m.alone;
@@ -105,6 +108,7 @@ module _ (old now : Nodes) (h : Sound now) (all : List StmtId) (id : StmtId) (id
   goes_on : Midway old b all ids number (suc next)
   goes_on = record {
     rest = λ key y e v. kept key y (m.rest key y e v) v;
+    stays = λ new k. m.stays new (λ key y o e. let p = and_parts _ _ o in k key y p.1 (others now h id x values was put next key y p.0 e));
     waits = still_wait ids m.waits.1 m.lowered.1 m.differ.0;
     lowered = m.lowered.1;
     differ = m.differ.1;
@@ -158,6 +162,8 @@ lowers_body old new h k body number found t e r =
     record {
       tree = λ path. body_lowers old new h k q.rest path body number t q.records;
       rest = q.rest;
+      stays = q.stays;
+      trees = λ keys u p path. kept_trees old new h k (prints old (visits old (stmts body))) q.stays path keys u p;
       records = q.records;
       scopes = q.scopes;
       alone = λ mine others u v h s. (q.alone mine others (record { mine_there = u; others_there = v; alone = s; placed = body_placed old body mine h })).alone;

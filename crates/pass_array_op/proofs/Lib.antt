@@ -2,7 +2,10 @@ pub mod Apart
 pub mod Becoming
 pub mod Edits
 pub mod Loops
+pub mod OtherUnits
 pub mod Places
 pub mod Records
 pub mod Small
 pub mod Trees
+pub mod UnitBodies
+pub mod UnitTrees

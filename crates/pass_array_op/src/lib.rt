@@ -2,7 +2,10 @@
 #![tactic(auto)]
 
 mod body;
+mod greatest;
 pub mod law;
 mod print;
+mod unit;
 
 pub use body::lower_statements;
+pub use unit::lower_implied_do;

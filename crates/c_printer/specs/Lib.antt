@@ -1,5 +1,7 @@
+pub mod Chains
 pub mod Files
 pub mod Helpers
+pub mod Laid
 pub mod Lowering
 pub mod Lowered
 pub mod Manners

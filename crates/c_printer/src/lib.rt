@@ -1,4 +1,4 @@
-//! The C file of a typed tree (ISO/IEC 9899:1999): its definition, and the lines of values and of first values.
+//! The C file of a typed tree (ISO/IEC 9899:1999).
 #![tactic(auto)]
 
 mod cexpr;
@@ -12,7 +12,10 @@ mod places;
 mod saved;
 mod scalar;
 mod scope;
+mod statements;
+mod units;
 mod values;
 mod writer;
 
 pub use scalar::{Helper, Manner, ScalarType, Value};
+pub use units::lower_to_c;
